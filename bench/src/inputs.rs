@@ -1,0 +1,45 @@
+//! The numbers to work on, made by a fixed rule: every run has the same ones.
+
+const FIRST_NORMAL: u64 = 1 << 52;
+const INFINITY: u64 = 0x7FF << 52;
+
+/// The generator SplitMix64.
+struct Words(u64);
+
+impl Words {
+    fn next(&mut self) -> u64 {
+        self.0 = self.0.wrapping_add(0x9E37_79B9_7F4A_7C15);
+        let z = (self.0 ^ (self.0 >> 30)).wrapping_mul(0xBF58_476D_1CE4_E5B9);
+        let z = (z ^ (z >> 27)).wrapping_mul(0x94D0_49BB_1331_11EB);
+        z ^ (z >> 31)
+    }
+
+    fn below(&mut self, bound: u64) -> u64 {
+        self.next() % bound
+    }
+}
+
+/// Any positive normal, each exponent as likely as any other.
+fn normal(words: &mut Words) -> f64 {
+    f64::from_bits(FIRST_NORMAL + words.below(INFINITY - FIRST_NORMAL))
+}
+
+/// A positive subnormal with any number of leading zeros.
+fn subnormal(words: &mut Words) -> f64 {
+    let digits = words.below(FIRST_NORMAL) >> words.below(52);
+    f64::from_bits(digits.max(1))
+}
+
+pub fn normals(count: usize) -> Vec<f64> {
+    let mut words = Words(1);
+    (0..count).map(|_| normal(&mut words)).collect()
+}
+
+/// Normals and subnormals in random order.
+pub fn half_subnormals(count: usize) -> Vec<f64> {
+    let mut words = Words(2);
+    let kinds = [normal, subnormal];
+    (0..count)
+        .map(|_| kinds[words.below(2) as usize](&mut words))
+        .collect()
+}

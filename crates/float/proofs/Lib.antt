@@ -1,0 +1,13 @@
+pub mod OneAnswer
+pub mod Choice
+pub mod Powers
+pub mod Squares
+pub mod Turns
+pub mod Exponent
+pub mod Patterns
+pub mod Units
+pub mod Rounding
+pub mod Correct
+pub mod Assembled
+pub mod Examples
+pub mod Unique

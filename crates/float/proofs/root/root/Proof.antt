@@ -1,0 +1,32 @@
+-- The form on patterns, between a writing and a reading of the bits; what it answers is the nearest value by `correct`. Assumes nothing.
+use mathlib.Core.Path.{_≡_, ap, _∙_}
+use borrow.Author.Needs.{needs}
+use denote.Floats.{passes}
+use lib.Ieee.{binary64, ofBits}
+use Rattle.float.specs.Root.{rootOf, rootBitsOf}
+use Rattle.float.proofs.Patterns.{through-bits}
+use Rattle.float.proofs.Correct.{root-fits, promised}
+use Rattle.float.proofs.root.root.Statement.{statement}
+use Rattle.float.proofs.root.root.Tie as tie
+
+to-bits-requires : tie.Need-to-bits-requires
+to-bits-requires c κs = search needs
+
+root-bits-requires : tie.Need-root-bits-requires
+root-bits-requires c κs = search needs
+
+of-bits-requires : tie.Need-of-bits-requires
+of-bits-requires c κs = search needs
+
+returns : tie.Need-returns
+returns c =
+    let s = c .before .before .before in
+    let x = s .args .x in
+    let fit = passes _ (s .good .0 .1) in
+    promised binary64 x (c .of-bits .result) fit
+    (c .of-bits .ensures
+    ∙ ap (ofBits binary64) (c .before .root-bits .ensures ∙ ap (rootBitsOf binary64) (c .before .before .to-bits .ensures))
+    ∙ through-bits binary64 (rootOf binary64) x fit (root-fits binary64 x fit))
+
+pub root-spec : {M : Type 1} → statement M
+root-spec = tie.close (tie.spec to-bits-requires root-bits-requires of-bits-requires returns)

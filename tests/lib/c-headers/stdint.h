@@ -1,0 +1,9 @@
+/* Of the C library's header, what host/ and include/ use: the kit's compiler comes without headers. */
+#ifndef KIT_STDINT_H
+#define KIT_STDINT_H
+
+typedef __UINT8_TYPE__ uint8_t;
+typedef __UINT32_TYPE__ uint32_t;
+typedef __UINT64_TYPE__ uint64_t;
+
+#endif

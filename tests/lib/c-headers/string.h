@@ -1,0 +1,9 @@
+/* Of the C library's header, what host/ uses: the kit's compiler comes without headers. */
+#ifndef KIT_STRING_H
+#define KIT_STRING_H
+
+typedef __SIZE_TYPE__ size_t;
+
+void *memcpy(void *restrict to, const void *restrict from, size_t length);
+
+#endif
