@@ -5,6 +5,7 @@ pub mod Squares
 pub mod Turns
 pub mod Exponent
 pub mod Patterns
+pub mod Finite
 pub mod Units
 pub mod Rounding
 pub mod Correct

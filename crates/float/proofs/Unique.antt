@@ -4,6 +4,7 @@ use mathlib.Core.Bool.{Bool}
 use Prim.Native.Nat.{ℕ}
 use lib.IntN.{ℤ}
 use lib.Ieee.{Float}
+use contract.Lifetimes.{Lfts}
 use Rattle.float.specs.OneAnswer.{OneAnswer}
 use Rattle.float.specs.declared.parts.Parts.{Parts}
 use Rattle.float.proofs.OneAnswer.{named}
@@ -18,6 +19,7 @@ use Rattle.float.proofs.root.root.Reads as root
 use Rattle.float.proofs.sign.magnitude.Reads as magnitude
 use Rattle.float.proofs.sign.sign_bit.Reads as sign-bit
 use Rattle.float.proofs.sign.is_finite.Reads as is-finite
+use Rattle.float.proofs.sign.all_finite.Reads as all-finite
 use Rattle.float.proofs.sign.signum_bits.Reads as signum-bits
 use Rattle.float.proofs.sign.signum.Reads as signum
 
@@ -53,6 +55,9 @@ one-sign-bit x = named _
 
 pub one-is-finite : (x : Float) → OneAnswer (λ (r : Bool). is-finite.Post tt (x, tt) r (x, tt))
 one-is-finite x = named _
+
+pub one-all-finite : (κs : Lfts 1) (a : _) (s : _) → OneAnswer (λ (r : Bool). all-finite.Post κs a r s)
+one-all-finite κs a s = named _
 
 pub one-signum-bits : (b : ℕ) → OneAnswer (λ (r : ℕ). signum-bits.Post tt (b, tt) r (b, tt))
 one-signum-bits b = named _
