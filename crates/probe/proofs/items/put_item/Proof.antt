@@ -1,0 +1,64 @@
+-- `probe::items::put_item` is safe: word j lies below the answer's end, and m is at most 64. Assumes nothing.
+use borrow.Author.Needs.{needs}
+use mathlib.Core.Path.{_≡_}
+use Prim.Native.Nat.{_-_, _≤_}
+use lib.ListN.{length}
+use Rattle.probe.proofs.items.put_item.Statement.{statement}
+use Rattle.probe.proofs.items.put_item.Tie as tie
+
+abbrev Inv-loop : tie.InvT-loop
+Inv-loop out₀ at m words j₀ out j = (j ≤ m) × (length out ≡ length out₀)
+
+abbrev μ-loop : tie.MeasureT-loop
+μ-loop out₀ at m words j₀ out j = m - j
+
+loop-holds : tie.Need-loop-holds Inv-loop μ-loop
+loop-holds c = search needs
+
+mul-put-word : tie.Need-mul-put-word Inv-loop μ-loop
+mul-put-word c = search needs
+
+add-put-word : tie.Need-add-put-word Inv-loop μ-loop
+add-put-word c = search needs
+
+mul-put-word-2 : tie.Need-mul-put-word-2 Inv-loop μ-loop
+mul-put-word-2 c = search needs
+
+array-read-put-word : tie.Need-array-read-put-word Inv-loop μ-loop
+array-read-put-word c = search needs
+
+put-word-requires : tie.Need-put-word-requires Inv-loop μ-loop
+put-word-requires c κs = search needs
+
+add-j : tie.Need-add-j Inv-loop μ-loop
+add-j c = search needs
+
+loop-less : tie.Need-loop-less Inv-loop μ-loop
+loop-less c = search needs
+
+loop-again : tie.Need-loop-again Inv-loop μ-loop
+loop-again c = search needs
+
+same-length : tie.Need-same-length Inv-loop μ-loop
+same-length c = search needs
+
+returns : tie.Need-returns Inv-loop μ-loop
+returns c = search needs
+
+pub put-item-spec : {M : Type 1} → statement M
+put-item-spec =
+    tie.close
+    (tie.spec
+    Inv-loop
+    μ-loop
+    loop-holds
+    mul-put-word
+    add-put-word
+    mul-put-word-2
+    array-read-put-word
+    put-word-requires
+    add-j
+    loop-less
+    loop-again
+    same-length
+    returns)

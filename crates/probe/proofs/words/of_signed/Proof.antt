@@ -1,0 +1,47 @@
+-- `probe::words::of_signed` is safe: below 0 it works on -1 - x, which is a natural number. Assumes nothing.
+use borrow.Author.Needs.{needs}
+use mathlib.Core.Path.{subst⁻¹}
+use Prim.Native.Nat.{_≤_}
+use native.Mathlib.Nat.{lt-of-lt-of-le}
+use native.Mathlib.Omega.{arith}
+use lib.Dec.{T, lit≤}
+use lib.IntN.{ℤ, natAbs}
+use lib.Signed.{nonNeg}
+use mir.Syntax.{w64}
+use mir.Val.{SFits, Fits, toZ, ofZ}
+use mir.ValLaws.{toZ-fits, ofZ-fits}
+use Rattle.probe.proofs.Signed.{kept, flipped, flipped-back}
+use Rattle.probe.proofs.words.of_signed.Statement.{statement}
+use Rattle.probe.proofs.words.of_signed.Tie as tie
+
+module _ (c : tie.Start) where
+  abbrev z : ℤ
+  z = toZ w64 (ofZ w64 (c .args .x))
+
+  small : SFits w64 z
+  small = toZ-fits w64 (ofZ w64 (c .args .x)) (ofZ-fits w64 (c .args .x) (c .fits .x))
+
+sub-result : tie.Need-sub-result
+sub-result c = subst⁻¹ (SFits w64) (flipped (z (c .before)) (c .if1 .taken)) (record { sfits = small (c .before) .sfits })
+
+cast-result : tie.Need-cast-result
+cast-result c =
+    subst⁻¹ (λ (y : ℤ). T (nonNeg y) × Fits w64 (natAbs y)) (flipped-back (z (c .before)) (small (c .before)) (c .if1 .taken))
+    (tt, record { fits = lt-of-lt-of-le (small (c .before) .sfits) (lit≤ tt) })
+
+sub-result-2 : tie.Need-sub-result-2
+sub-result-2 c =
+    subst⁻¹ (λ (y : ℤ). natAbs y ≤ 18446744073709551615) (flipped-back (z (c .before)) (small (c .before)) (c .if1 .taken))
+    (let l = small (c .before) .sfits in omega arith)
+
+returns : tie.Need-returns
+returns c = search needs
+
+cast-result-2 : tie.Need-cast-result-2
+cast-result-2 c = kept (z (c .before)) (small (c .before)) (c .if1 .left)
+
+returns-2 : tie.Need-returns-2
+returns-2 c = search needs
+
+pub of-signed-spec : {M : Type 1} → statement M
+of-signed-spec = tie.close (tie.spec sub-result cast-result sub-result-2 returns cast-result-2 returns-2)

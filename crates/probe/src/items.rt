@@ -1,0 +1,68 @@
+// Items of words, and the answers to a run of them.
+use crate::operations::answer;
+use crate::words::put_word;
+use crate::words::word_at;
+ghost use Prim.Native.Nat.{_+_, _*_, _≤_};
+ghost use lib.ListN.{length};
+ghost use Rattle.probe.specs.Limits.{Within};
+
+// What the header asks for: the operation, and the words of an item and of its answer.
+pub(crate) struct Job {
+    pub(crate) op: u64,
+    pub(crate) n: usize,
+    pub(crate) m: usize,
+}
+
+// The n words from `at` on; the others are 0.
+fn item_at(s: &[u8], at: usize, n: usize) -> [u64; 40]
+    requires { ⌜ (at + 8 * n ≤ length (now s)) × (n ≤ 40) ⌝ }
+{
+    let mut words = [0; 40];
+    let mut j = 0;
+    while j < n {
+        words[j] = word_at(s, at + 8 * j);
+        j += 1;
+    }
+    words
+}
+
+// Writes the first m words from `at` on.
+fn put_item(out: &mut [u8], at: usize, words: [u64; 64], m: usize)
+    requires { ⌜ (at + 8 * m ≤ length (now out)) × (m ≤ 64) ⌝ }
+{
+    let mut j = 0;
+    while j < m {
+        put_word(out, at + 8 * j, words[j]);
+        j += 1;
+    }
+}
+
+// Answers the first `count` items.
+pub(crate) fn answer_items(s: &[u8], out: &mut [u8], job: Job, count: usize)
+    requires { ⌜ Within (job .n) (job .m) ⌝ }
+    requires { ⌜ (count * (8 * job .n) ≤ length (now s)) × (count * (8 * job .m) ≤ length (now out)) ⌝ }
+{
+    let op = job.op;
+    let n = job.n;
+    let m = job.m;
+    let mut at = 0;
+    let mut to = 0;
+    let mut left = count;
+    while left > 0 {
+        put_item(out, to, answer(op, item_at(s, at, n)), m);
+        at += 8 * n;
+        to += 8 * m;
+        left -= 1;
+    }
+}
+
+// Moves the n bytes from `from` on to the front.
+pub(crate) fn keep_tail(buf: &mut [u8], from: usize, n: usize)
+    requires { ⌜ from + n ≤ length (now buf) ⌝ }
+{
+    let mut i = 0;
+    while i < n {
+        buf[i] = buf[from + i];
+        i += 1;
+    }
+}
