@@ -1,4 +1,5 @@
 pub mod OneAnswer
+pub mod Branches
 pub mod Choice
 pub mod Powers
 pub mod Squares

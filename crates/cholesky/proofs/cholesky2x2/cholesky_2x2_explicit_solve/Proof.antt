@@ -1,0 +1,51 @@
+-- Both lengths passed, the numbers read one by one are the first two of b. Assumes nothing.
+use mathlib.Core.Path.{refl}
+use borrow.Author.Needs.{needs}
+use borrow.Author.Tests.{le-leb, lt-leb}
+use Rattle.matrix.proofs.Tables.{tabulate-take}
+use Rattle.cholesky.specs.Solve.{solve2Of}
+use Rattle.cholesky.proofs.cholesky2x2.cholesky_2x2_explicit_solve.Statement.{statement}
+use Rattle.cholesky.proofs.cholesky2x2.cholesky_2x2_explicit_solve.Tie as tie
+
+returns : tie.Need-returns
+unfolding solve2Of
+returns c = rw (lt-leb 2 _ (c .if1 .taken)) (refl, refl)
+
+returns-2 : tie.Need-returns-2
+unfolding solve2Of
+returns-2 c = rw (le-leb 2 _ (c .before .if1 .left), lt-leb 2 _ (c .if2 .taken)) (refl, refl)
+
+shared-slice-read-t10 : tie.Need-shared-slice-read-t10
+shared-slice-read-t10 c = search needs
+
+shared-slice-read-t12 : tie.Need-shared-slice-read-t12
+shared-slice-read-t12 c = search needs
+
+judged-solution-requires : tie.Need-judged-solution-requires
+judged-solution-requires c κs = search needs
+
+put2-requires : tie.Need-put2-requires
+put2-requires c κs = search needs
+
+same-length : tie.Need-same-length
+same-length c = search needs
+
+returns-3 : tie.Need-returns-3
+unfolding solve2Of
+returns-3 c =
+    let l = c .before .before .before .before .before .before .before .before .if1 .left in
+    let k = c .before .before .before .before .before .before .before .if2 .left in
+    rw (le-leb 2 _ l, le-leb 2 _ k, ← tabulate-take 2 (c .before .before .before .before .before .before .before .before .before .before .before .args .b .now) k) (rw (c .before .before .before .judged-solution .ensures) at (c .before .before .put2 .ensures))
+
+pub cholesky-2x2-explicit-solve-spec : {M : Type 1} → statement M
+cholesky-2x2-explicit-solve-spec =
+    tie.close
+    (tie.spec
+    returns
+    returns-2
+    shared-slice-read-t10
+    shared-slice-read-t12
+    judged-solution-requires
+    put2-requires
+    same-length
+    returns-3)

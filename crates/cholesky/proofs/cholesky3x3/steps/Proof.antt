@@ -1,0 +1,178 @@
+-- Each pivot step either hands its root on or stops the factor, as the definition has it. Assumes nothing.
+use mathlib.Core.Path.{_≡_, ap, _∙_}
+use mathlib.Core.List.{List}
+use borrow.Author.Needs.{needs}
+use lib.Ieee.{Float, binary64, sub, mul, div}
+use Rattle.matrix.specs.Places.{at}
+use Rattle.cholesky.specs.Factor.{factor3, third3Of, second3Of, steps3Of}
+use Rattle.cholesky.proofs.Steps.{stops-first3, goes-first3, stops-second3, goes-second3, stops-third3, goes-third3}
+use Rattle.cholesky.proofs.cholesky3x3.steps.Statement.{statement}
+use Rattle.cholesky.proofs.cholesky3x3.steps.Tie as tie
+
+abbrev start : tie.After-known-told → tie.Start
+start c = c .before .before .before .before .before .before
+
+abbrev l-of : tie.Start → List Float
+l-of s = s .args .l .«data»
+
+abbrev a-of : tie.Start → List Float
+a-of s = s .args .a .«data»
+
+-- ---- after the first root
+
+abbrev l11 : tie.After-known-told → Float
+l11 c = c .before .p1 .given .0 .0
+
+abbrev l21 : tie.After-known-told → Float
+l21 c = div binary64 (at (a-of (start c)) 1) (l11 c)
+
+first : (c : tie.After-known-told) → second3Of binary64 (l-of (start c)) (a-of (start c)) (l11 c) (l21 c) ≡ steps3Of binary64 (l-of (start c)) (a-of (start c))
+first c = goes-first3 binary64 (l-of (start c)) (a-of (start c)) (c .before .before .before .pivot-step .ensures) (c .before .p1 .given .1)
+
+-- ---- after the second root
+
+abbrev one : tie.After-known-told2 → tie.After-known-told
+one c = c .before .before .before .before
+
+abbrev l22 : tie.After-known-told2 → Float
+l22 c = c .before .p2 .given .0 .0
+
+abbrev l31 : tie.After-known-told2 → Float
+l31 c = div binary64 (at (a-of (start (one c))) 3) (l11 (one c))
+
+abbrev l32 : tie.After-known-told2 → Float
+l32 c = div binary64 (sub binary64 (at (a-of (start (one c))) 4) (mul binary64 (l21 (one c)) (l31 c))) (l22 c)
+
+second : (c : tie.After-known-told2) →
+    third3Of binary64 (l-of (start (one c))) (a-of (start (one c))) (l11 (one c)) (l21 (one c)) (l22 c) (l31 c) (l32 c) ≡ steps3Of binary64 (l-of (start (one c))) (a-of (start (one c)))
+second c =
+    goes-second3 binary64 (l-of (start (one c))) (a-of (start (one c))) (l11 (one c)) (l21 (one c)) (c .before .before .before .pivot-step2 .ensures) (c .before .p2 .given .1)
+    ∙ first (one c)
+
+array-read-pivot-step : tie.Need-array-read-pivot-step
+array-read-pivot-step c = search needs
+
+pivot-step-requires : tie.Need-pivot-step-requires
+pivot-step-requires c κs = search needs
+
+enum-known-p1 : tie.Need-enum-known-p1
+enum-known-p1 c = search needs
+
+enum-told : tie.Need-enum-told
+enum-told c = search needs
+
+stopped-requires : tie.Need-stopped-requires
+stopped-requires c κs = search needs
+
+returns : tie.Need-returns
+returns c =
+    let s = c .before .before .before .before .before .before in
+    c .stopped .ensures ∙ ap factor3 (stops-first3 binary64 (l-of s) (a-of s) (c .before .before .before .pivot-step .ensures) (c .before .enum-told .given .1))
+
+array-read-l21 : tie.Need-array-read-l21
+array-read-l21 c = search needs
+
+array-read-pivot-step-2 : tie.Need-array-read-pivot-step-2
+array-read-pivot-step-2 c = search needs
+
+pivot-step-requires-2 : tie.Need-pivot-step-requires-2
+pivot-step-requires-2 c κs = search needs
+
+enum-known-p2 : tie.Need-enum-known-p2
+enum-known-p2 c = search needs
+
+enum-told-2 : tie.Need-enum-told-2
+enum-told-2 c = search needs
+
+array-read-t25 : tie.Need-array-read-t25
+array-read-t25 c = search needs
+
+array-read-t28 : tie.Need-array-read-t28
+array-read-t28 c = search needs
+
+array-read-t31 : tie.Need-array-read-t31
+array-read-t31 c = search needs
+
+array-read-t34 : tie.Need-array-read-t34
+array-read-t34 c = search needs
+
+stopped-requires-2 : tie.Need-stopped-requires-2
+stopped-requires-2 c κs = search needs
+
+returns-2 : tie.Need-returns-2
+returns-2 c =
+    let k = c .before .before .before .before in
+    let s = start k in
+    c .stopped2 .ensures ∙ ap factor3 (stops-second3 binary64 (l-of s) (a-of s) (l11 k) (l21 k) (c .before .before .before .pivot-step2 .ensures) (c .before .enum-told2 .given .1) ∙ first k)
+
+array-read-l31 : tie.Need-array-read-l31
+array-read-l31 c = search needs
+
+array-read-l32 : tie.Need-array-read-l32
+array-read-l32 c = search needs
+
+array-read-pivot-step-3 : tie.Need-array-read-pivot-step-3
+array-read-pivot-step-3 c = search needs
+
+pivot-step-requires-3 : tie.Need-pivot-step-requires-3
+pivot-step-requires-3 c κs = search needs
+
+enum-known-p3 : tie.Need-enum-known-p3
+enum-known-p3 c = search needs
+
+enum-told-3 : tie.Need-enum-told-3
+enum-told-3 c = search needs
+
+array-read-t47 : tie.Need-array-read-t47
+array-read-t47 c = search needs
+
+stopped-requires-3 : tie.Need-stopped-requires-3
+stopped-requires-3 c κs = search needs
+
+returns-3 : tie.Need-returns-3
+returns-3 c =
+    let k = c .before .before .before .before in
+    let s = start (one k) in
+    c .stopped3 .ensures ∙ ap factor3 (stops-third3 binary64 (l-of s) (a-of s) (l11 (one k)) (l21 (one k)) (l22 k) (l31 k) (l32 k) (c .before .before .before .pivot-step3 .ensures) (c .before .enum-told3 .given .1) ∙ second k)
+
+whole-requires : tie.Need-whole-requires
+whole-requires c κs = search needs
+
+returns-4 : tie.Need-returns-4
+returns-4 c =
+    let k = c .before .before .before .before .before in
+    let s = start (one k) in
+    c .whole .ensures ∙ ap factor3 (goes-third3 binary64 (l-of s) (a-of s) (l11 (one k)) (l21 (one k)) (l22 k) (l31 k) (l32 k) (c .before .before .before .before .pivot-step3 .ensures) (c .before .before .p3 .given .1) ∙ second k)
+
+pub steps-spec : {M : Type 1} → statement M
+steps-spec =
+    tie.close
+    (tie.spec
+    array-read-pivot-step
+    pivot-step-requires
+    enum-known-p1
+    enum-told
+    stopped-requires
+    returns
+    array-read-l21
+    array-read-pivot-step-2
+    pivot-step-requires-2
+    enum-known-p2
+    enum-told-2
+    array-read-t25
+    array-read-t28
+    array-read-t31
+    array-read-t34
+    stopped-requires-2
+    returns-2
+    array-read-l31
+    array-read-l32
+    array-read-pivot-step-3
+    pivot-step-requires-3
+    enum-known-p3
+    enum-told-3
+    array-read-t47
+    stopped-requires-3
+    returns-3
+    whole-requires
+    returns-4)

@@ -1,0 +1,19 @@
+-- Each case hands back its own number. Assumes nothing.
+use borrow.Author.Needs.{needs}
+use Rattle.cholesky.proofs.pivot.refusal_of.Statement.{statement}
+use Rattle.cholesky.proofs.pivot.refusal_of.Tie as tie
+
+enum-told : tie.Need-enum-told
+enum-told c = search needs
+
+enum-known-p : tie.Need-enum-known-p
+enum-known-p c = search needs
+
+returns : tie.Need-returns
+returns c = rw (c .enum-told .given .1)
+
+returns-2 : tie.Need-returns-2
+returns-2 c = rw (c .before .p .given .1)
+
+pub refusal-of-spec : {M : Type 1} → statement M
+refusal-of-spec = tie.close (tie.spec enum-told enum-known-p returns returns-2)

@@ -1,0 +1,3 @@
+pub mod Pivot
+pub mod Factor
+pub mod Solve

@@ -1,0 +1,7 @@
+pub mod Tables
+pub mod Placing
+pub mod Answered
+pub mod Moves
+pub mod Sums
+pub mod Readings
+pub mod Unique

@@ -1,0 +1,40 @@
+-- A list of n numbers is the table of what stands at its places: by induction on n. Assumes nothing.
+use mathlib.Core.Path.{_≡_, refl, ap, _∙_}
+use mathlib.Core.List.{List, [], _∷_, _++_}
+use Prim.Native.Nat.{ℕ, zero, suc, _≤_, _<_}
+use native.Mathlib.Nat.{zero-add}
+use native.Mathlib.Omega.{arith}
+use lib.ListN.{length, take, drop}
+use lib.Seq.{take-all, sets, sets-eq}
+use lib.Ieee.{Float}
+use Rattle.matrix.specs.Places.{at, tabulate}
+
+pub length-tabulate : (n : ℕ) (g : ℕ → Float) → length (tabulate n g) ≡ n
+length-tabulate zero g = refl
+length-tabulate (suc n) g = ap suc (length-tabulate n (λ (i : ℕ). g (suc i)))
+
+pub at-tabulate : (n : ℕ) (g : ℕ → Float) (i : ℕ) → i < n → at (tabulate n g) i ≡ g i
+at-tabulate zero g i h = absurd (omega arith)
+at-tabulate (suc n) g zero h = refl
+at-tabulate (suc n) g (suc i) h = at-tabulate n (λ (k : ℕ). g (suc k)) i (omega arith)
+
+pub tabulate-same : (n : ℕ) (g h : ℕ → Float) → ((i : ℕ) → i < n → g i ≡ h i) → tabulate n g ≡ tabulate n h
+tabulate-same zero g h same = refl
+tabulate-same (suc n) g h same =
+    ap (λ x. x ∷ tabulate n (λ (i : ℕ). g (suc i))) (same 0 (omega arith))
+    ∙ ap (λ xs. h 0 ∷ xs) (tabulate-same n (λ (i : ℕ). g (suc i)) (λ (i : ℕ). h (suc i)) (λ i l. same (suc i) (omega arith)))
+
+pub tabulate-take : (n : ℕ) (xs : List Float) → n ≤ length xs → tabulate n (at xs) ≡ take n xs
+tabulate-take zero xs h = refl
+tabulate-take (suc n) [] h = absurd (omega arith)
+tabulate-take (suc n) (x ∷ xs) h = ap (λ ys. x ∷ ys) (tabulate-take n xs (omega arith))
+
+pub tabulate-all : (n : ℕ) (xs : List Float) → length xs ≡ n → tabulate n (at xs) ≡ xs
+tabulate-all n xs e = tabulate-take n xs (omega arith) ∙ take-all n xs (omega arith)
+
+pub tabulate-at : (xs : List Float) → tabulate (length xs) (at xs) ≡ xs
+tabulate-at xs = tabulate-all (length xs) xs refl
+
+-- n numbers stored one by one from the first place on
+pub stored : (n : ℕ) (v y : List Float) → length v ≡ n → n ≤ length y → sets y 0 (tabulate n (at v)) ≡ v ++ drop n y
+stored n v y e h = rw (tabulate-all n v e, sets-eq v y 0 (omega arith), e, zero-add)

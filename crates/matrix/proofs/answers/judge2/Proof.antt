@@ -1,0 +1,28 @@
+-- The finite test picks the case. Assumes nothing.
+use mathlib.Core.Path.{sym, _∙_}
+use borrow.Author.Needs.{needs}
+use Rattle.matrix.specs.Answer.{judgedAll}
+use Rattle.matrix.proofs.answers.judge2.Statement.{statement}
+use Rattle.matrix.proofs.answers.judge2.Tie as tie
+
+slice-aggregate-all-finite : tie.Need-slice-aggregate-all-finite
+slice-aggregate-all-finite c = search needs
+
+all-finite-requires : tie.Need-all-finite-requires
+all-finite-requires c κs = search needs
+
+refuse2-requires : tie.Need-refuse2-requires
+refuse2-requires c κs = search needs
+
+returns : tie.Need-returns
+unfolding judgedAll
+returns c = rw (sym (c .before .all-finite .ensures) ∙ c .if1 .taken)
+
+returns-2 : tie.Need-returns-2
+unfolding judgedAll
+returns-2 c = rw (sym (c .before .before .all-finite .ensures) ∙ c .before .if1 .left) (c .refuse2 .ensures)
+
+pub judge2-spec : {M : Type 1} → statement M
+judge2-spec =
+    tie.close
+    (tie.spec slice-aggregate-all-finite all-finite-requires refuse2-requires returns returns-2)

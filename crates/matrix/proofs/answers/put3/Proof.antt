@@ -1,0 +1,61 @@
+-- Stores from the first place on leave the numbers, and then what lay past them. Assumes nothing.
+use mathlib.Core.Path.{_≡_, refl}
+use native.Mathlib.Omega.{arith}
+use borrow.Author.Needs.{needs}
+use borrow.Author.Tests.{le-leb, lt-leb, eq-eqb, ne-eqb}
+use lib.ListN.{length, length-set}
+use Rattle.matrix.specs.Answer.{putOf}
+use Rattle.matrix.proofs.Tables.{stored}
+use Rattle.matrix.proofs.answers.put3.Statement.{statement}
+use Rattle.matrix.proofs.answers.put3.Tie as tie
+
+returns : tie.Need-returns
+unfolding putOf
+returns c = rw (lt-leb 3 _ (c .if1 .taken)) (refl, refl)
+
+array-read-y : tie.Need-array-read-y
+array-read-y c = search needs
+
+slice-write-y : tie.Need-slice-write-y
+slice-write-y c = search needs
+
+array-read-y-2 : tie.Need-array-read-y-2
+array-read-y-2 c = search needs
+
+slice-write-y-2 : tie.Need-slice-write-y-2
+slice-write-y-2 c = simp length-set (omega arith)
+
+array-read-y-3 : tie.Need-array-read-y-3
+array-read-y-3 c = search needs
+
+slice-write-y-3 : tie.Need-slice-write-y-3
+slice-write-y-3 c = search needs
+
+same-length : tie.Need-same-length
+same-length c = search needs
+
+returns-2 : tie.Need-returns-2
+unfolding putOf
+returns-2 c =
+    let a = c .before .before .before .args in
+    let l : length (a .p .values) ≡ 3 = search needs in
+    rw (le-leb 3 _ (c .before .if1 .left), eq-eqb _ _ (c .if2 .taken)) (refl, stored 3 (a .p .values) (a .y .now) l (c .before .if1 .left))
+
+returns-3 : tie.Need-returns-3
+unfolding putOf
+returns-3 c = rw (le-leb 3 _ (c .before .if1 .left), ne-eqb _ _ (c .if2 .left)) (refl, refl)
+
+pub put3-spec : {M : Type 1} → statement M
+put3-spec =
+    tie.close
+    (tie.spec
+    returns
+    array-read-y
+    slice-write-y
+    array-read-y-2
+    slice-write-y-2
+    array-read-y-3
+    slice-write-y-3
+    same-length
+    returns-2
+    returns-3)

@@ -1,0 +1,42 @@
+-- The number names one of the columns, or it is not below the size. Assumes nothing.
+use mathlib.Core.Path.{ap}
+use Prim.Native.Nat.{_≤_}
+use native.Mathlib.Omega.{arith}
+use borrow.Author.Needs.{needs}
+use borrow.Author.Tests.{le-ltb}
+use Rattle.matrix.specs.Square.{flipColumnOf}
+use Rattle.matrix.specs.declared.square.Mat3.{Mat3}
+use Rattle.matrix.proofs.square.Mat3.flip_column.Statement.{statement}
+use Rattle.matrix.proofs.square.Mat3.flip_column.Tie as tie
+
+flip1-requires : tie.Need-flip1-requires
+flip1-requires c κs = search needs
+
+flip2-requires : tie.Need-flip2-requires
+flip2-requires c κs = search needs
+
+flip3-requires : tie.Need-flip3-requires
+flip3-requires c κs = search needs
+
+returns : tie.Need-returns
+unfolding flipColumnOf
+returns c = rw (c .before .match .keys1) (ap (λ (m : Mat3). record { code = 0; matrix = m }) (c .flip1 .ensures))
+
+returns-2 : tie.Need-returns-2
+unfolding flipColumnOf
+returns-2 c = rw (c .before .match .keys2) (ap (λ (m : Mat3). record { code = 0; matrix = m }) (c .flip2 .ensures))
+
+returns-3 : tie.Need-returns-3
+unfolding flipColumnOf
+returns-3 c = rw (c .before .match .keys3) (ap (λ (m : Mat3). record { code = 0; matrix = m }) (c .flip3 .ensures))
+
+returns-4 : tie.Need-returns-4
+unfolding flipColumnOf
+returns-4 c =
+    let past : 3 ≤ c .before .args .i = omega arith in
+    rw (le-ltb _ _ past)
+
+pub flip-column-spec : {M : Type 1} → statement M
+flip-column-spec =
+    tie.close
+    (tie.spec flip1-requires flip2-requires flip3-requires returns returns-2 returns-3 returns-4)

@@ -1,0 +1,38 @@
+-- A place that is answered lies in the list. Assumes nothing.
+use mathlib.Core.Path.{ap}
+use Prim.Native.Nat.{ℕ}
+use native.Mathlib.Omega.{arith}
+use borrow.Author.Needs.{needs}
+use lib.ListN.{set}
+use Rattle.matrix.specs.Square.{mat3Answer}
+use Rattle.matrix.proofs.Answered.{at-place, no-place, found-square, used, refused-too}
+use Rattle.matrix.proofs.square.Mat3.index_mut.Statement.{statement}
+use Rattle.matrix.proofs.square.Mat3.index_mut.Tie as tie
+
+square-place-requires : tie.Need-square-place-requires
+square-place-requires c κs = search needs
+
+enum-known-p : tie.Need-enum-known-p
+enum-known-p c = search needs
+
+enum-told : tie.Need-enum-told
+enum-told c = search needs
+
+returns : tie.Need-returns
+returns c = ap mat3Answer (refused-too 3 _ _ _ _ _ (no-place (c .enum-told .given .1) (c .before .before .square-place .ensures)))
+
+mul-d : tie.Need-mul-d
+mul-d c = omega (arith, found-square 3 _ _ (at-place (c .before .p .given .1) (c .before .before .before .square-place .ensures)))
+
+array-write-d : tie.Need-array-write-d
+array-write-d c = found-square 3 _ _ (at-place (c .before .p .given .1) (c .before .before .before .square-place .ensures))
+
+returns-2 : tie.Need-returns-2
+returns-2 c =
+    let a = c .before .before .before .before .before .args in
+    ap mat3Answer (used 3 _ _ _ (λ (i : ℕ). set (a .self .«data») i (a .x)) _ (at-place (c .before .p .given .1) (c .before .before .before .square-place .ensures)))
+
+pub index-mut-spec : {M : Type 1} → statement M
+index-mut-spec =
+    tie.close
+    (tie.spec square-place-requires enum-known-p enum-told returns mul-d array-write-d returns-2)

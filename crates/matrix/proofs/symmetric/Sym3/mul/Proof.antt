@@ -1,0 +1,55 @@
+-- Both lengths passed, the numbers read one by one are the input's first three. Assumes nothing.
+use mathlib.Core.Path.{refl}
+use borrow.Author.Needs.{needs}
+use borrow.Author.Tests.{le-leb, lt-leb}
+use Rattle.matrix.specs.Symmetric.{symMulOf}
+use Rattle.matrix.proofs.Tables.{tabulate-take}
+use Rattle.matrix.proofs.symmetric.Sym3.mul.Statement.{statement}
+use Rattle.matrix.proofs.symmetric.Sym3.mul.Tie as tie
+
+returns : tie.Need-returns
+unfolding symMulOf
+returns c = rw (lt-leb 3 _ (c .if1 .taken)) (refl, refl)
+
+returns-2 : tie.Need-returns-2
+unfolding symMulOf
+returns-2 c = rw (le-leb 3 _ (c .before .if1 .left), lt-leb 3 _ (c .if2 .taken)) (refl, refl)
+
+shared-slice-read-t10 : tie.Need-shared-slice-read-t10
+shared-slice-read-t10 c = search needs
+
+shared-slice-read-t12 : tie.Need-shared-slice-read-t12
+shared-slice-read-t12 c = search needs
+
+shared-slice-read-t14 : tie.Need-shared-slice-read-t14
+shared-slice-read-t14 c = search needs
+
+product-requires : tie.Need-product-requires
+product-requires c κs = search needs
+
+put3-requires : tie.Need-put3-requires
+put3-requires c κs = search needs
+
+same-length : tie.Need-same-length
+same-length c = search needs
+
+returns-3 : tie.Need-returns-3
+unfolding symMulOf
+returns-3 c =
+    let l = c .before .before .before .before .before .before .before .before .before .if1 .left in
+    let h = c .before .before .before .before .before .before .before .before .if2 .left in
+    rw (le-leb 3 _ l, le-leb 3 _ h, ← tabulate-take 3 (c .before .before .before .before .before .before .before .before .before .before .before .before .args .x .now) h) (rw (c .before .before .before .product .ensures, le-leb 3 _ l) at (c .before .before .put3 .ensures))
+
+pub mul-spec : {M : Type 1} → statement M
+mul-spec =
+    tie.close
+    (tie.spec
+    returns
+    returns-2
+    shared-slice-read-t10
+    shared-slice-read-t12
+    shared-slice-read-t14
+    product-requires
+    put3-requires
+    same-length
+    returns-3)

@@ -1,0 +1,60 @@
+-- Both lengths passed, the numbers read one by one are the first three of each slice. Assumes nothing.
+use borrow.Author.Needs.{needs}
+use borrow.Author.Tests.{le-leb, lt-leb}
+use Rattle.matrix.specs.Symmetric.{quadFormOf}
+use Rattle.matrix.proofs.Tables.{tabulate-take}
+use Rattle.matrix.proofs.symmetric.Sym3.quad_form.Statement.{statement}
+use Rattle.matrix.proofs.symmetric.Sym3.quad_form.Tie as tie
+
+returns : tie.Need-returns
+unfolding quadFormOf
+returns c = rw (lt-leb 3 _ (c .if1 .taken))
+
+returns-2 : tie.Need-returns-2
+unfolding quadFormOf
+returns-2 c = rw (le-leb 3 _ (c .before .if1 .left), lt-leb 3 _ (c .if2 .taken))
+
+shared-slice-read-t7 : tie.Need-shared-slice-read-t7
+shared-slice-read-t7 c = search needs
+
+shared-slice-read-t9 : tie.Need-shared-slice-read-t9
+shared-slice-read-t9 c = search needs
+
+shared-slice-read-t11 : tie.Need-shared-slice-read-t11
+shared-slice-read-t11 c = search needs
+
+shared-slice-read-t14 : tie.Need-shared-slice-read-t14
+shared-slice-read-t14 c = search needs
+
+shared-slice-read-t16 : tie.Need-shared-slice-read-t16
+shared-slice-read-t16 c = search needs
+
+shared-slice-read-t18 : tie.Need-shared-slice-read-t18
+shared-slice-read-t18 c = search needs
+
+quad-judged-requires : tie.Need-quad-judged-requires
+quad-judged-requires c κs = search needs
+
+returns-3 : tie.Need-returns-3
+unfolding quadFormOf
+returns-3 c =
+    let a = c .before .before .before .before .before .before .before .before .before .before .before .args in
+    let l = c .before .before .before .before .before .before .before .before .if1 .left in
+    let h = c .before .before .before .before .before .before .before .if2 .left in
+    rw (le-leb 3 _ l, le-leb 3 _ h, ← tabulate-take 3 (a .y .now) l, ← tabulate-take 3 (a .x .now) h)
+    (c .quad-judged .ensures)
+
+pub quad-form-spec : {M : Type 1} → statement M
+quad-form-spec =
+    tie.close
+    (tie.spec
+    returns
+    returns-2
+    shared-slice-read-t7
+    shared-slice-read-t9
+    shared-slice-read-t11
+    shared-slice-read-t14
+    shared-slice-read-t16
+    shared-slice-read-t18
+    quad-judged-requires
+    returns-3)

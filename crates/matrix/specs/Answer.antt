@@ -1,0 +1,81 @@
+-- Answers: a code and a value. Where a call is refused the code says why, and the value is made of zeros. Definitions only.
+use mathlib.Core.Path.{_≡_}
+use mathlib.Core.List.{List, _++_}
+use Prim.Native.Nat.{ℕ}
+use lib.Dec.{leb, eqb}
+use lib.ListN.{length, drop, replicate}
+use lib.Ieee.{Float, Format}
+use Rattle.float.specs.Choice.{pick}
+use Rattle.float.specs.Constants.{zeroF}
+use Rattle.float.specs.Sign.{finite, allFinite}
+use Rattle.matrix.specs.declared.answers.Place.{Place}
+use Rattle.matrix.specs.declared.answers.Place.the-variants as place-is
+use Rattle.matrix.specs.declared.answers.Entry.{Entry}
+use Rattle.matrix.specs.declared.answers.Entry.the-variants as entry-is
+use Rattle.matrix.specs.declared.answers.Scalar.{Scalar}
+use Rattle.matrix.specs.declared.answers.Scalar.the-variants as scalar-is
+use Rattle.matrix.specs.declared.answers.Numbers2.{Numbers2}
+use Rattle.matrix.specs.declared.answers.Numbers3.{Numbers3}
+
+pub record Answer (A : Type 0) : Type 0 where
+  pub code : ℕ
+  pub value : A
+
+abbrev pub done : {A : Type 0} → A → Answer A
+done x = record { code = 0; value = x }
+
+abbrev pub refused : {A : Type 0} → ℕ → A → Answer A
+refused k x = record { code = k; value = x }
+
+-- ---- the code and the value of each case of an enum
+
+abbrev pub place : Place → Answer ℕ
+place (place-is.At i) = done i
+place place-is.Outside = refused 8 0
+
+abbrev pub entry : Format → Entry → Answer Float
+entry f (entry-is.Number x) = done x
+entry f entry-is.Outside = refused 8 (zeroF f)
+
+abbrev pub scalar : Format → Scalar → Answer Float
+scalar f (scalar-is.Number x) = done x
+scalar f scalar-is.InputLength = refused 1 (zeroF f)
+scalar f scalar-is.InputNotFinite = refused 5 (zeroF f)
+scalar f scalar-is.AnswerNotFinite = refused 7 (zeroF f)
+
+-- ---- numbers that were worked out: 7 where one is not finite
+
+abbrev pub zeros : Format → ℕ → List Float
+zeros f n = replicate n (zeroF f)
+
+unfoldable pub judged : Format → Float → Answer Float
+judged f x = pick (finite x) (done x) (refused 7 (zeroF f))
+
+abbrev pub refusedAll : Format → ℕ → ℕ → Answer (List Float)
+refusedAll f n k = refused k (zeros f n)
+
+unfoldable pub judgedAll : Format → ℕ → List Float → Answer (List Float)
+judgedAll f n xs = pick (allFinite xs) (done xs) (refusedAll f n 7)
+
+-- ---- the structs that hold them
+
+abbrev pub numbers2 : Answer (List Float) → Numbers2
+numbers2 a = record { code = a .code; values = a .value }
+
+abbrev pub ofNumbers2 : Numbers2 → Answer (List Float)
+ofNumbers2 p = record { code = p .code; value = p .values }
+
+abbrev pub numbers3 : Answer (List Float) → Numbers3
+numbers3 a = record { code = a .code; values = a .value }
+
+abbrev pub ofNumbers3 : Numbers3 → Answer (List Float)
+ofNumbers3 p = record { code = p .code; value = p .values }
+
+-- ---- a lent slice: n numbers take its first places where the code is 0, and what lies past them stays; a slice of fewer places is refused with 2
+
+unfoldable pub putOf : ℕ → Answer (List Float) → List Float → Answer (List Float)
+putOf n a y = pick (leb n (length y)) (record { code = a .code; value = pick (eqb (a .code) 0) (a .value ++ drop n y) y }) (refused 2 y)
+
+-- what a call on a lent slice promises: the code, and the slice's content at exit
+abbrev pub Outcome : Answer (List Float) → ℕ → List Float → Type 0
+Outcome a code left = (code ≡ a .code) × (left ≡ a .value)

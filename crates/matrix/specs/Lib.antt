@@ -1,0 +1,4 @@
+pub mod Answer
+pub mod Places
+pub mod Square
+pub mod Symmetric

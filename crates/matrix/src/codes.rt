@@ -1,0 +1,22 @@
+// The numbers that answer. One that a function can give is named in its definition.
+
+// The answer is there.
+pub const DONE: u8 = 0;
+
+// An input slice of wrong length.
+pub const INPUT_LENGTH: u8 = 1;
+
+// An output slice of wrong length.
+pub const OUTPUT_LENGTH: u8 = 2;
+
+// A used input number is NaN or infinite.
+pub const INPUT_NOT_FINITE: u8 = 5;
+
+// A pivot is not above zero.
+pub const PIVOT: u8 = 6;
+
+// A number of the answer is NaN or infinite.
+pub const ANSWER_NOT_FINITE: u8 = 7;
+
+// A row or a column not below the size.
+pub const OUTSIDE: u8 = 8;

@@ -1,0 +1,478 @@
+// Square matrices of sizes 2 and 3, their numbers column by column.
+use crate::answers::Entry;
+use crate::answers::Numbers2;
+use crate::answers::Numbers3;
+use crate::answers::Place;
+use crate::answers::judge2;
+use crate::answers::judge3;
+use crate::answers::put2;
+use crate::answers::put3;
+use crate::answers::refuse2;
+use crate::answers::refuse3;
+use crate::codes::DONE;
+use crate::codes::INPUT_LENGTH;
+use crate::codes::INPUT_NOT_FINITE;
+use crate::codes::OUTPUT_LENGTH;
+use crate::codes::OUTSIDE;
+use float::sign::all_finite;
+ghost use mathlib.Core.Path.{_≡_};
+ghost use Prim.Native.Nat.{_≤_, _<_};
+ghost use lib.Ieee.{binary64};
+ghost use Rattle.matrix.specs.Answer.{Outcome, place, entry, zeros, numbers2, numbers3};
+ghost use Rattle.matrix.specs.Places.{squareIndex, indexOf, readOf, writeOf};
+ghost use Rattle.matrix.specs.Square.{mat2, mat3, mat2Answer, mat3Answer, identityOf, transposeOf, exchangeOf, negateOf, swapColumnsOf, flipColumnOf, timesOf, productOf, mulOf};
+
+pub struct Mat2 {
+    pub data: [f64; 4],
+}
+
+pub struct Mat3 {
+    pub data: [f64; 9],
+}
+
+pub struct Mat2Answer {
+    pub code: u8,
+    pub matrix: Mat2,
+}
+
+pub struct Mat3Answer {
+    pub code: u8,
+    pub matrix: Mat3,
+}
+
+pub struct Size {
+    pub rows: usize,
+    pub cols: usize,
+}
+
+// The place of (r, c) in a matrix of size n.
+fn square_place(n: usize, r: usize, c: usize) -> Place
+    requires { ⌜ n ≤ 3 ⌝ }
+    ensures { λ p. ⌜ place p ≡ indexOf n r c (squareIndex n r c) ⌝ }
+{
+    if n <= r {
+        return Place::Outside;
+    }
+    if n <= c {
+        return Place::Outside;
+    }
+    Place::At(r + c * n)
+}
+
+impl Mat2 {
+    pub fn zeros() -> Self
+        ensures { λ r. ⌜ r ≡ mat2 (zeros binary64 4) ⌝ }
+    {
+        Mat2 { data: [0.0; 4] }
+    }
+
+    pub fn dim(self) -> usize
+        ensures { λ r. ⌜ r ≡ 2 ⌝ }
+    {
+        2
+    }
+
+    pub fn size(self) -> Size
+        ensures { λ r. ⌜ r ≡ record { rows = 2; cols = 2 } ⌝ }
+    {
+        Size { rows: 2, cols: 2 }
+    }
+
+    pub fn index_linear(self, r: usize, c: usize) -> Place
+        ensures { λ p. ⌜ place p ≡ indexOf 2 r c (squareIndex 2 r c) ⌝ }
+    {
+        square_place(2, r, c)
+    }
+
+    // The number at (r, c).
+    pub fn index(self, r: usize, c: usize) -> Entry
+        ensures { λ x. ⌜ entry binary64 x ≡ readOf binary64 2 r c (squareIndex 2 r c) (self .«data») ⌝ }
+    {
+        let d = self.data;
+        let p = square_place(2, r, c);
+        let Place::At(i) = p else {
+            return Entry::Outside;
+        };
+        Entry::Number(d[i])
+    }
+
+    // The matrix with x at (r, c).
+    pub fn index_mut(self, r: usize, c: usize, x: f64) -> Mat2Answer
+        ensures { λ a. ⌜ a ≡ mat2Answer (writeOf 2 r c (squareIndex 2 r c) x (self .«data»)) ⌝ }
+    {
+        let mut d = self.data;
+        let p = square_place(2, r, c);
+        let Place::At(i) = p else {
+            return Mat2Answer {
+                code: OUTSIDE,
+                matrix: self,
+            };
+        };
+        d[i] = x;
+        Mat2Answer {
+            code: DONE,
+            matrix: Mat2 { data: d },
+        }
+    }
+
+    pub fn set_identity(self) -> Self
+        ensures { λ r. ⌜ r ≡ mat2 (identityOf binary64 2) ⌝ }
+    {
+        Mat2 {
+            data: [1.0, 0.0, 0.0, 1.0],
+        }
+    }
+
+    pub fn transpose_in_place(self) -> Self
+        ensures { λ r. ⌜ r ≡ mat2 (transposeOf 2 (self .«data»)) ⌝ }
+    {
+        let d = self.data;
+        Mat2 {
+            data: [d[0], d[2], d[1], d[3]],
+        }
+    }
+
+    pub fn flip1(self) -> Self
+        ensures { λ r. ⌜ r ≡ mat2 (negateOf 2 0 (self .«data»)) ⌝ }
+    {
+        let d = self.data;
+        Mat2 {
+            data: [-d[0], -d[1], d[2], d[3]],
+        }
+    }
+
+    pub fn flip2(self) -> Self
+        ensures { λ r. ⌜ r ≡ mat2 (negateOf 2 1 (self .«data»)) ⌝ }
+    {
+        let d = self.data;
+        Mat2 {
+            data: [d[0], d[1], -d[2], -d[3]],
+        }
+    }
+
+    pub fn flip_column(self, i: usize) -> Mat2Answer
+        ensures { λ a. ⌜ a ≡ mat2Answer (flipColumnOf 2 i (self .«data»)) ⌝ }
+    {
+        match i {
+            0 => Mat2Answer {
+                code: DONE,
+                matrix: self.flip1(),
+            },
+            1 => Mat2Answer {
+                code: DONE,
+                matrix: self.flip2(),
+            },
+            _ => Mat2Answer {
+                code: OUTSIDE,
+                matrix: self,
+            },
+        }
+    }
+
+    pub fn swap12(self) -> Self
+        ensures { λ r. ⌜ r ≡ mat2 (exchangeOf 2 0 1 (self .«data»)) ⌝ }
+    {
+        let d = self.data;
+        Mat2 {
+            data: [d[2], d[3], d[0], d[1]],
+        }
+    }
+
+    // Columns i and j below the size.
+    fn swapped(self, i: usize, j: usize) -> Self
+        requires { ⌜ (i < 2) × (j < 2) ⌝ }
+        ensures { λ r. ⌜ r ≡ mat2 (exchangeOf 2 i j (self .«data»)) ⌝ }
+    {
+        if i == j {
+            return self;
+        }
+        self.swap12()
+    }
+
+    pub fn swap_columns(self, i: usize, j: usize) -> Mat2Answer
+        ensures { λ a. ⌜ a ≡ mat2Answer (swapColumnsOf 2 i j (self .«data»)) ⌝ }
+    {
+        if 2 <= i {
+            return Mat2Answer {
+                code: OUTSIDE,
+                matrix: self,
+            };
+        }
+        if 2 <= j {
+            return Mat2Answer {
+                code: OUTSIDE,
+                matrix: self,
+            };
+        }
+        Mat2Answer {
+            code: DONE,
+            matrix: self.swapped(i, j),
+        }
+    }
+
+    // A x, in the order of the columns, each sum from +0 on.
+    fn times(self, x: [f64; 2]) -> [f64; 2]
+        ensures { λ r. ⌜ r ≡ timesOf binary64 2 (self .«data») x ⌝ }
+    {
+        let d = self.data;
+        [
+            0.0 + d[0] * x[0] + d[2] * x[1],
+            0.0 + d[1] * x[0] + d[3] * x[1],
+        ]
+    }
+
+    // A x, judged before and after.
+    fn product(self, x: [f64; 2]) -> Numbers2
+        ensures { λ r. ⌜ r ≡ numbers2 (productOf binary64 2 (self .«data») x) ⌝ }
+    {
+        let d = self.data;
+        if !all_finite(&d) {
+            return refuse2(INPUT_NOT_FINITE);
+        }
+        if !all_finite(&x) {
+            return refuse2(INPUT_NOT_FINITE);
+        }
+        judge2(self.times(x))
+    }
+
+    // y = A x, on slices of 2 places.
+    pub fn mul(self, y: &mut [f64], x: &[f64]) -> u8
+        ensures { λ r. ⌜ Outcome (mulOf binary64 2 (self .«data») (now (x .entry)) (now (y .entry))) r (now (y .exit)) ⌝ }
+    {
+        if y.len() != 2 {
+            return OUTPUT_LENGTH;
+        }
+        if x.len() != 2 {
+            return INPUT_LENGTH;
+        }
+        put2(y, self.product([x[0], x[1]]))
+    }
+}
+
+impl Mat3 {
+    pub fn zeros() -> Self
+        ensures { λ r. ⌜ r ≡ mat3 (zeros binary64 9) ⌝ }
+    {
+        Mat3 { data: [0.0; 9] }
+    }
+
+    pub fn dim(self) -> usize
+        ensures { λ r. ⌜ r ≡ 3 ⌝ }
+    {
+        3
+    }
+
+    pub fn size(self) -> Size
+        ensures { λ r. ⌜ r ≡ record { rows = 3; cols = 3 } ⌝ }
+    {
+        Size { rows: 3, cols: 3 }
+    }
+
+    pub fn index_linear(self, r: usize, c: usize) -> Place
+        ensures { λ p. ⌜ place p ≡ indexOf 3 r c (squareIndex 3 r c) ⌝ }
+    {
+        square_place(3, r, c)
+    }
+
+    // The number at (r, c).
+    pub fn index(self, r: usize, c: usize) -> Entry
+        ensures { λ x. ⌜ entry binary64 x ≡ readOf binary64 3 r c (squareIndex 3 r c) (self .«data») ⌝ }
+    {
+        let d = self.data;
+        let p = square_place(3, r, c);
+        let Place::At(i) = p else {
+            return Entry::Outside;
+        };
+        Entry::Number(d[i])
+    }
+
+    // The matrix with x at (r, c).
+    pub fn index_mut(self, r: usize, c: usize, x: f64) -> Mat3Answer
+        ensures { λ a. ⌜ a ≡ mat3Answer (writeOf 3 r c (squareIndex 3 r c) x (self .«data»)) ⌝ }
+    {
+        let mut d = self.data;
+        let p = square_place(3, r, c);
+        let Place::At(i) = p else {
+            return Mat3Answer {
+                code: OUTSIDE,
+                matrix: self,
+            };
+        };
+        d[i] = x;
+        Mat3Answer {
+            code: DONE,
+            matrix: Mat3 { data: d },
+        }
+    }
+
+    pub fn set_identity(self) -> Self
+        ensures { λ r. ⌜ r ≡ mat3 (identityOf binary64 3) ⌝ }
+    {
+        Mat3 {
+            data: [1.0, 0.0, 0.0, 0.0, 1.0, 0.0, 0.0, 0.0, 1.0],
+        }
+    }
+
+    pub fn transpose_in_place(self) -> Self
+        ensures { λ r. ⌜ r ≡ mat3 (transposeOf 3 (self .«data»)) ⌝ }
+    {
+        let d = self.data;
+        Mat3 {
+            data: [d[0], d[3], d[6], d[1], d[4], d[7], d[2], d[5], d[8]],
+        }
+    }
+
+    pub fn flip1(self) -> Self
+        ensures { λ r. ⌜ r ≡ mat3 (negateOf 3 0 (self .«data»)) ⌝ }
+    {
+        let d = self.data;
+        Mat3 {
+            data: [-d[0], -d[1], -d[2], d[3], d[4], d[5], d[6], d[7], d[8]],
+        }
+    }
+
+    pub fn flip2(self) -> Self
+        ensures { λ r. ⌜ r ≡ mat3 (negateOf 3 1 (self .«data»)) ⌝ }
+    {
+        let d = self.data;
+        Mat3 {
+            data: [d[0], d[1], d[2], -d[3], -d[4], -d[5], d[6], d[7], d[8]],
+        }
+    }
+
+    pub fn flip3(self) -> Self
+        ensures { λ r. ⌜ r ≡ mat3 (negateOf 3 2 (self .«data»)) ⌝ }
+    {
+        let d = self.data;
+        Mat3 {
+            data: [d[0], d[1], d[2], d[3], d[4], d[5], -d[6], -d[7], -d[8]],
+        }
+    }
+
+    pub fn flip_column(self, i: usize) -> Mat3Answer
+        ensures { λ a. ⌜ a ≡ mat3Answer (flipColumnOf 3 i (self .«data»)) ⌝ }
+    {
+        match i {
+            0 => Mat3Answer {
+                code: DONE,
+                matrix: self.flip1(),
+            },
+            1 => Mat3Answer {
+                code: DONE,
+                matrix: self.flip2(),
+            },
+            2 => Mat3Answer {
+                code: DONE,
+                matrix: self.flip3(),
+            },
+            _ => Mat3Answer {
+                code: OUTSIDE,
+                matrix: self,
+            },
+        }
+    }
+
+    pub fn swap12(self) -> Self
+        ensures { λ r. ⌜ r ≡ mat3 (exchangeOf 3 0 1 (self .«data»)) ⌝ }
+    {
+        let d = self.data;
+        Mat3 {
+            data: [d[3], d[4], d[5], d[0], d[1], d[2], d[6], d[7], d[8]],
+        }
+    }
+
+    pub fn swap13(self) -> Self
+        ensures { λ r. ⌜ r ≡ mat3 (exchangeOf 3 0 2 (self .«data»)) ⌝ }
+    {
+        let d = self.data;
+        Mat3 {
+            data: [d[6], d[7], d[8], d[3], d[4], d[5], d[0], d[1], d[2]],
+        }
+    }
+
+    pub fn swap23(self) -> Self
+        ensures { λ r. ⌜ r ≡ mat3 (exchangeOf 3 1 2 (self .«data»)) ⌝ }
+    {
+        let d = self.data;
+        Mat3 {
+            data: [d[0], d[1], d[2], d[6], d[7], d[8], d[3], d[4], d[5]],
+        }
+    }
+
+    // Columns i and j below the size.
+    fn swapped(self, i: usize, j: usize) -> Self
+        requires { ⌜ (i < 3) × (j < 3) ⌝ }
+        ensures { λ r. ⌜ r ≡ mat3 (exchangeOf 3 i j (self .«data»)) ⌝ }
+    {
+        if i == j {
+            return self;
+        }
+        if i + j == 1 {
+            return self.swap12();
+        }
+        if i + j == 2 {
+            return self.swap13();
+        }
+        self.swap23()
+    }
+
+    pub fn swap_columns(self, i: usize, j: usize) -> Mat3Answer
+        ensures { λ a. ⌜ a ≡ mat3Answer (swapColumnsOf 3 i j (self .«data»)) ⌝ }
+    {
+        if 3 <= i {
+            return Mat3Answer {
+                code: OUTSIDE,
+                matrix: self,
+            };
+        }
+        if 3 <= j {
+            return Mat3Answer {
+                code: OUTSIDE,
+                matrix: self,
+            };
+        }
+        Mat3Answer {
+            code: DONE,
+            matrix: self.swapped(i, j),
+        }
+    }
+
+    // A x, in the order of the columns, each sum from +0 on.
+    fn times(self, x: [f64; 3]) -> [f64; 3]
+        ensures { λ r. ⌜ r ≡ timesOf binary64 3 (self .«data») x ⌝ }
+    {
+        let d = self.data;
+        [
+            0.0 + d[0] * x[0] + d[3] * x[1] + d[6] * x[2],
+            0.0 + d[1] * x[0] + d[4] * x[1] + d[7] * x[2],
+            0.0 + d[2] * x[0] + d[5] * x[1] + d[8] * x[2],
+        ]
+    }
+
+    // A x, judged before and after.
+    fn product(self, x: [f64; 3]) -> Numbers3
+        ensures { λ r. ⌜ r ≡ numbers3 (productOf binary64 3 (self .«data») x) ⌝ }
+    {
+        let d = self.data;
+        if !all_finite(&d) {
+            return refuse3(INPUT_NOT_FINITE);
+        }
+        if !all_finite(&x) {
+            return refuse3(INPUT_NOT_FINITE);
+        }
+        judge3(self.times(x))
+    }
+
+    // y = A x, on slices of 3 places.
+    pub fn mul(self, y: &mut [f64], x: &[f64]) -> u8
+        ensures { λ r. ⌜ Outcome (mulOf binary64 3 (self .«data») (now (x .entry)) (now (y .entry))) r (now (y .exit)) ⌝ }
+    {
+        if y.len() != 3 {
+            return OUTPUT_LENGTH;
+        }
+        if x.len() != 3 {
+            return INPUT_LENGTH;
+        }
+        put3(y, self.product([x[0], x[1], x[2]]))
+    }
+}

@@ -1,0 +1,258 @@
+// Symmetric matrices of sizes 2 and 3 by their upper triangle, column by column: A11, A12, A22, A13, A23, A33.
+use crate::answers::Entry;
+use crate::answers::Place;
+use crate::codes::ANSWER_NOT_FINITE;
+use crate::codes::DONE;
+use crate::codes::INPUT_NOT_FINITE;
+use crate::codes::OUTSIDE;
+use crate::square::Size;
+use float::sign::all_finite;
+use float::sign::is_finite;
+ghost use mathlib.Core.Path.{_≡_};
+ghost use Prim.Native.Nat.{_≤_};
+ghost use lib.Ieee.{binary64};
+ghost use Rattle.matrix.specs.Answer.{place, entry, zeros, refusedAll};
+ghost use Rattle.matrix.specs.Places.{packedIndex, indexOf, readOf, writeOf};
+ghost use Rattle.matrix.specs.Symmetric.{sym2, sym3, sym2Answer, sym3Answer, scaledOf, scaledFromOf};
+
+pub struct Sym2 {
+    pub data: [f64; 3],
+}
+
+pub struct Sym3 {
+    pub data: [f64; 6],
+}
+
+pub struct Sym2Answer {
+    pub code: u8,
+    pub matrix: Sym2,
+}
+
+pub struct Sym3Answer {
+    pub code: u8,
+    pub matrix: Sym3,
+}
+
+// The place of (r, c) in the upper triangle of a matrix of size n.
+fn packed_place(n: usize, r: usize, c: usize) -> Place
+    requires { ⌜ n ≤ 3 ⌝ }
+    ensures { λ p. ⌜ place p ≡ indexOf n r c (packedIndex r c) ⌝ }
+{
+    if n <= r {
+        return Place::Outside;
+    }
+    if n <= c {
+        return Place::Outside;
+    }
+    if r < c {
+        Place::At(r + c * (c + 1) / 2)
+    } else {
+        Place::At(c + r * (r + 1) / 2)
+    }
+}
+
+impl Sym2 {
+    pub fn zeros() -> Self
+        ensures { λ r. ⌜ r ≡ sym2 (zeros binary64 3) ⌝ }
+    {
+        Sym2 { data: [0.0; 3] }
+    }
+
+    pub fn dim(self) -> usize
+        ensures { λ r. ⌜ r ≡ 2 ⌝ }
+    {
+        2
+    }
+
+    pub fn size(self) -> Size
+        ensures { λ r. ⌜ r ≡ record { rows = 2; cols = 2 } ⌝ }
+    {
+        Size { rows: 2, cols: 2 }
+    }
+
+    pub fn index_linear(self, r: usize, c: usize) -> Place
+        ensures { λ p. ⌜ place p ≡ indexOf 2 r c (packedIndex r c) ⌝ }
+    {
+        packed_place(2, r, c)
+    }
+
+    // The number at (r, c), which is also the one at (c, r).
+    pub fn index(self, r: usize, c: usize) -> Entry
+        ensures { λ x. ⌜ entry binary64 x ≡ readOf binary64 2 r c (packedIndex r c) (self .«data») ⌝ }
+    {
+        let d = self.data;
+        let p = packed_place(2, r, c);
+        let Place::At(i) = p else {
+            return Entry::Outside;
+        };
+        Entry::Number(d[i])
+    }
+
+    // The matrix with x at (r, c) and (c, r).
+    pub fn index_mut(self, r: usize, c: usize, x: f64) -> Sym2Answer
+        ensures { λ a. ⌜ a ≡ sym2Answer (writeOf 2 r c (packedIndex r c) x (self .«data»)) ⌝ }
+    {
+        let mut d = self.data;
+        let p = packed_place(2, r, c);
+        let Place::At(i) = p else {
+            return Sym2Answer {
+                code: OUTSIDE,
+                matrix: self,
+            };
+        };
+        d[i] = x;
+        Sym2Answer {
+            code: DONE,
+            matrix: Sym2 { data: d },
+        }
+    }
+
+    pub fn copy_from(self, src: Sym2) -> Self
+        ensures { λ r. ⌜ r ≡ src ⌝ }
+    {
+        src
+    }
+
+    // c times each number of b.
+    pub fn scaled_from(c: f64, b: Sym2) -> Sym2Answer
+        ensures { λ a. ⌜ a ≡ sym2Answer (scaledFromOf binary64 2 c (b .«data»)) ⌝ }
+    {
+        let d = b.data;
+        if !is_finite(c) {
+            return refused_sym2(INPUT_NOT_FINITE);
+        }
+        if !all_finite(&d) {
+            return refused_sym2(INPUT_NOT_FINITE);
+        }
+        let s = scaled2(c, b);
+        let e = s.data;
+        if !all_finite(&e) {
+            return refused_sym2(ANSWER_NOT_FINITE);
+        }
+        Sym2Answer {
+            code: DONE,
+            matrix: s,
+        }
+    }
+}
+
+fn refused_sym2(code: u8) -> Sym2Answer
+    ensures { λ a. ⌜ a ≡ sym2Answer (refusedAll binary64 3 code) ⌝ }
+{
+    Sym2Answer {
+        code,
+        matrix: Sym2 { data: [0.0; 3] },
+    }
+}
+
+fn scaled2(c: f64, b: Sym2) -> Sym2
+    ensures { λ r. ⌜ r ≡ sym2 (scaledOf binary64 2 c (b .«data»)) ⌝ }
+{
+    let d = b.data;
+    Sym2 {
+        data: [c * d[0], c * d[1], c * d[2]],
+    }
+}
+
+impl Sym3 {
+    pub fn zeros() -> Self
+        ensures { λ r. ⌜ r ≡ sym3 (zeros binary64 6) ⌝ }
+    {
+        Sym3 { data: [0.0; 6] }
+    }
+
+    pub fn dim(self) -> usize
+        ensures { λ r. ⌜ r ≡ 3 ⌝ }
+    {
+        3
+    }
+
+    pub fn size(self) -> Size
+        ensures { λ r. ⌜ r ≡ record { rows = 3; cols = 3 } ⌝ }
+    {
+        Size { rows: 3, cols: 3 }
+    }
+
+    pub fn index_linear(self, r: usize, c: usize) -> Place
+        ensures { λ p. ⌜ place p ≡ indexOf 3 r c (packedIndex r c) ⌝ }
+    {
+        packed_place(3, r, c)
+    }
+
+    // The number at (r, c), which is also the one at (c, r).
+    pub fn index(self, r: usize, c: usize) -> Entry
+        ensures { λ x. ⌜ entry binary64 x ≡ readOf binary64 3 r c (packedIndex r c) (self .«data») ⌝ }
+    {
+        let d = self.data;
+        let p = packed_place(3, r, c);
+        let Place::At(i) = p else {
+            return Entry::Outside;
+        };
+        Entry::Number(d[i])
+    }
+
+    // The matrix with x at (r, c) and (c, r).
+    pub fn index_mut(self, r: usize, c: usize, x: f64) -> Sym3Answer
+        ensures { λ a. ⌜ a ≡ sym3Answer (writeOf 3 r c (packedIndex r c) x (self .«data»)) ⌝ }
+    {
+        let mut d = self.data;
+        let p = packed_place(3, r, c);
+        let Place::At(i) = p else {
+            return Sym3Answer {
+                code: OUTSIDE,
+                matrix: self,
+            };
+        };
+        d[i] = x;
+        Sym3Answer {
+            code: DONE,
+            matrix: Sym3 { data: d },
+        }
+    }
+
+    pub fn copy_from(self, src: Sym3) -> Self
+        ensures { λ r. ⌜ r ≡ src ⌝ }
+    {
+        src
+    }
+
+    // c times each number of b.
+    pub fn scaled_from(c: f64, b: Sym3) -> Sym3Answer
+        ensures { λ a. ⌜ a ≡ sym3Answer (scaledFromOf binary64 3 c (b .«data»)) ⌝ }
+    {
+        let d = b.data;
+        if !is_finite(c) {
+            return refused_sym3(INPUT_NOT_FINITE);
+        }
+        if !all_finite(&d) {
+            return refused_sym3(INPUT_NOT_FINITE);
+        }
+        let s = scaled3(c, b);
+        let e = s.data;
+        if !all_finite(&e) {
+            return refused_sym3(ANSWER_NOT_FINITE);
+        }
+        Sym3Answer {
+            code: DONE,
+            matrix: s,
+        }
+    }
+}
+
+fn refused_sym3(code: u8) -> Sym3Answer
+    ensures { λ a. ⌜ a ≡ sym3Answer (refusedAll binary64 6 code) ⌝ }
+{
+    Sym3Answer {
+        code,
+        matrix: Sym3 { data: [0.0; 6] },
+    }
+}
+
+fn scaled3(c: f64, b: Sym3) -> Sym3
+    ensures { λ r. ⌜ r ≡ sym3 (scaledOf binary64 3 c (b .«data»)) ⌝ }
+{
+    let d = b.data;
+    Sym3 {
+        data: [c * d[0], c * d[1], c * d[2], c * d[3], c * d[4], c * d[5]],
+    }
+}
