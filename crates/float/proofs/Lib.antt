@@ -7,6 +7,8 @@ pub mod Turns
 pub mod Exponent
 pub mod Patterns
 pub mod Finite
+pub mod Negation
+pub mod Keys
 pub mod Units
 pub mod Rounding
 pub mod Correct

@@ -1,0 +1,96 @@
+-- The invariant: what is left of the run, from the state at hand, leaves what the whole run leaves. The measure is the turns left. Assumes nothing.
+use mathlib.Core.Path.{_≡_, sym, ap, _∙_}
+use mathlib.Core.Bool.{Bool}
+use Prim.Native.Nat.{ℕ, _+_, _-_, _≤_}
+use native.Mathlib.Omega.{arith}
+use borrow.Author.Needs.{needs}
+use lib.Ieee.{binary64}
+use Rattle.matrix.specs.declared.square.Mat3.{Mat3}
+use Rattle.matrix.specs.declared.symmetric.Sym3.{Sym3}
+use Rattle.eigen.specs.Eigen3x3.{State, working, settledOf, stepOf, workOf, startOf}
+use Rattle.eigen.proofs.Run.{leaves, turns-once, used-up}
+use Rattle.eigen.proofs.Turns.{tested, next-state}
+use Rattle.eigen.proofs.eigen3x3.work.Statement.{statement}
+use Rattle.eigen.proofs.eigen3x3.work.Tie as tie
+
+abbrev state : Sym3 → Mat3 → ℕ → State
+state b v n = record { matrix = b .«data»; vectors = v .«data»; count = n }
+
+abbrev done : State → Bool
+done s = settledOf binary64 (s .matrix)
+
+abbrev Inv-loop : tie.InvT-loop
+Inv-loop b₀ v₀ count₀ b v count = (count ≤ 25) × (workOf binary64 (25 - count) (state b v count) ≡ workOf binary64 25 (startOf binary64 (b₀ .«data»)))
+
+abbrev μ-loop : tie.MeasureT-loop
+μ-loop b₀ v₀ count₀ b v count = 25 - count
+
+zeros-requires : tie.Need-zeros-requires Inv-loop μ-loop
+zeros-requires c κs = search needs
+
+set-identity-requires : tie.Need-set-identity-requires Inv-loop μ-loop
+set-identity-requires c κs = search needs
+
+loop-holds : tie.Need-loop-holds Inv-loop μ-loop
+loop-holds c = (omega arith, rw (c .set-identity .ensures))
+
+find-largest-off-diag-requires : tie.Need-find-largest-off-diag-requires Inv-loop μ-loop
+find-largest-off-diag-requires c κs = search needs
+
+limit-requires : tie.Need-limit-requires Inv-loop μ-loop
+limit-requires c κs = search needs
+
+returns : tie.Need-returns Inv-loop μ-loop
+unfolding workOf
+returns c =
+    let l = c .before .before .before .before .before .loop in
+    let h = sym (tested binary64 (l .b .«data») (c .before .before .before .find-largest-off-diag .ensures) (c .before .before .limit .ensures)) ∙ c .if1 .taken in
+    ap working (leaves (stepOf binary64) done 25 (l .count) (state (l .b) (l .v) (l .count)) h (l .inv .1))
+
+rotate-pair-requires : tie.Need-rotate-pair-requires Inv-loop μ-loop
+rotate-pair-requires c κs = search needs
+
+update-eigenvectors-requires : tie.Need-update-eigenvectors-requires Inv-loop μ-loop
+update-eigenvectors-requires c κs = search needs
+
+add-count : tie.Need-add-count Inv-loop μ-loop
+add-count c = search needs
+
+loop-less : tie.Need-loop-less Inv-loop μ-loop
+loop-less c = search needs
+
+loop-again : tie.Need-loop-again Inv-loop μ-loop
+unfolding workOf
+loop-again c =
+    let l = c .before .before .before .before .before .before .before .before .before .loop in
+    let o = c .before .before .before .before .before .before .before .find-largest-off-diag .ensures in
+    let h = sym (tested binary64 (l .b .«data») o (c .before .before .before .before .before .before .limit .ensures)) ∙ c .before .before .before .before .if1 .left in (
+      omega arith,
+      ap (workOf binary64 (25 - (l .count + 1))) (next-state binary64 (l .b .«data») o (l .count) (c .before .before .before .rotate-pair .ensures) (l .v .«data») (c .update-eigenvectors .ensures))
+          ∙ turns-once (stepOf binary64) done 25 (l .count) (state (l .b) (l .v) (l .count)) (omega arith) h (l .inv .1),
+    )
+
+returns-2 : tie.Need-returns-2 Inv-loop μ-loop
+unfolding workOf
+returns-2 c =
+    let l = c .before .loop in
+    ap working (used-up (stepOf binary64) done 25 (l .count) (state (l .b) (l .v) (l .count)) (omega arith) (l .inv .1))
+
+pub work-spec : {M : Type 1} → statement M
+work-spec =
+    tie.close
+    (tie.spec
+    Inv-loop
+    μ-loop
+    zeros-requires
+    set-identity-requires
+    loop-holds
+    find-largest-off-diag-requires
+    limit-requires
+    returns
+    rotate-pair-requires
+    update-eigenvectors-requires
+    add-count
+    loop-less
+    loop-again
+    returns-2)

@@ -1,0 +1,83 @@
+-- The invariant: what is left of the run, from the state at hand, leaves what the whole run leaves. The measure is the turns left. Assumes nothing.
+use mathlib.Core.Path.{_≡_, refl, sym, ap, _∙_}
+use mathlib.Core.Bool.{Bool}
+use Prim.Native.Nat.{ℕ, _+_, _-_, _≤_}
+use native.Mathlib.Omega.{arith}
+use borrow.Author.Needs.{needs}
+use lib.Ieee.{binary64}
+use Rattle.matrix.specs.declared.symmetric.Sym3.{Sym3}
+use Rattle.eigen.specs.Eigen3x3.{BareState, bare, settledOf, bareStepOf, bareWorkOf, bareStartOf}
+use Rattle.eigen.proofs.Run.{leaves, turns-once, used-up}
+use Rattle.eigen.proofs.Turns.{tested, next-bare}
+use Rattle.eigen.proofs.eigen3x3.work_values.Statement.{statement}
+use Rattle.eigen.proofs.eigen3x3.work_values.Tie as tie
+
+abbrev state : Sym3 → ℕ → BareState
+state b n = record { matrix = b .«data»; count = n }
+
+abbrev done : BareState → Bool
+done s = settledOf binary64 (s .matrix)
+
+abbrev Inv-loop : tie.InvT-loop
+Inv-loop b₀ count₀ b count = (count ≤ 25) × (bareWorkOf binary64 (25 - count) (state b count) ≡ bareWorkOf binary64 25 (bareStartOf (b₀ .«data»)))
+
+abbrev μ-loop : tie.MeasureT-loop
+μ-loop b₀ count₀ b count = 25 - count
+
+loop-holds : tie.Need-loop-holds Inv-loop μ-loop
+loop-holds c = (omega arith, refl)
+
+find-largest-off-diag-requires : tie.Need-find-largest-off-diag-requires Inv-loop μ-loop
+find-largest-off-diag-requires c κs = search needs
+
+limit-requires : tie.Need-limit-requires Inv-loop μ-loop
+limit-requires c κs = search needs
+
+returns : tie.Need-returns Inv-loop μ-loop
+unfolding bareWorkOf
+returns c =
+    let l = c .before .before .before .before .before .loop in
+    let h = sym (tested binary64 (l .b .«data») (c .before .before .before .find-largest-off-diag .ensures) (c .before .before .limit .ensures)) ∙ c .if1 .taken in
+    ap bare (leaves (bareStepOf binary64) done 25 (l .count) (state (l .b) (l .count)) h (l .inv .1))
+
+rotate-pair-requires : tie.Need-rotate-pair-requires Inv-loop μ-loop
+rotate-pair-requires c κs = search needs
+
+add-count : tie.Need-add-count Inv-loop μ-loop
+add-count c = search needs
+
+loop-less : tie.Need-loop-less Inv-loop μ-loop
+loop-less c = search needs
+
+loop-again : tie.Need-loop-again Inv-loop μ-loop
+unfolding bareWorkOf
+loop-again c =
+    let l = c .before .before .before .before .before .before .before .loop in
+    let o = c .before .before .before .before .before .find-largest-off-diag .ensures in
+    let h = sym (tested binary64 (l .b .«data») o (c .before .before .before .before .limit .ensures)) ∙ c .before .before .if1 .left in (
+      omega arith,
+      ap (bareWorkOf binary64 (25 - (l .count + 1))) (next-bare binary64 (l .b .«data») o (l .count) (c .before .rotate-pair .ensures))
+          ∙ turns-once (bareStepOf binary64) done 25 (l .count) (state (l .b) (l .count)) (omega arith) h (l .inv .1),
+    )
+
+returns-2 : tie.Need-returns-2 Inv-loop μ-loop
+unfolding bareWorkOf
+returns-2 c =
+    let l = c .before .loop in
+    ap bare (used-up (bareStepOf binary64) done 25 (l .count) (state (l .b) (l .count)) (omega arith) (l .inv .1))
+
+pub work-values-spec : {M : Type 1} → statement M
+work-values-spec =
+    tie.close
+    (tie.spec
+    Inv-loop
+    μ-loop
+    loop-holds
+    find-largest-off-diag-requires
+    limit-requires
+    returns
+    rotate-pair-requires
+    add-count
+    loop-less
+    loop-again
+    returns-2)

@@ -1,0 +1,54 @@
+-- Each return is one outcome of two comparisons of magnitudes. Assumes nothing.
+use borrow.Author.Needs.{needs}
+use Rattle.eigen.specs.Pairs.{largestOf}
+use Rattle.eigen.proofs.pairs.find_largest_off_diag.Statement.{statement}
+use Rattle.eigen.proofs.pairs.find_largest_off_diag.Tie as tie
+
+array-read-magnitude : tie.Need-array-read-magnitude
+array-read-magnitude c = search needs
+
+magnitude-requires : tie.Need-magnitude-requires
+magnitude-requires c κs = search needs
+
+array-read-magnitude-2 : tie.Need-array-read-magnitude-2
+array-read-magnitude-2 c = search needs
+
+magnitude-requires-2 : tie.Need-magnitude-requires-2
+magnitude-requires-2 c κs = search needs
+
+array-read-magnitude-3 : tie.Need-array-read-magnitude-3
+array-read-magnitude-3 c = search needs
+
+magnitude-requires-3 : tie.Need-magnitude-requires-3
+magnitude-requires-3 c κs = search needs
+
+returns : tie.Need-returns
+unfolding largestOf
+returns c = simp (← c .before .before .before .before .magnitude .ensures, ← c .before .before .before .magnitude2 .ensures, ← c .before .before .magnitude3 .ensures, c .before .if1 .taken, c .if2 .taken)
+
+returns-2 : tie.Need-returns-2
+unfolding largestOf
+returns-2 c = simp (← c .before .before .before .before .magnitude .ensures, ← c .before .before .before .magnitude2 .ensures, ← c .before .before .magnitude3 .ensures, c .before .if1 .taken, c .if2 .left)
+
+returns-3 : tie.Need-returns-3
+unfolding largestOf
+returns-3 c = simp (← c .before .before .before .before .magnitude .ensures, ← c .before .before .before .magnitude2 .ensures, ← c .before .before .magnitude3 .ensures, c .before .if1 .left, c .if3 .taken)
+
+returns-4 : tie.Need-returns-4
+unfolding largestOf
+returns-4 c = simp (← c .before .before .before .before .magnitude .ensures, ← c .before .before .before .magnitude2 .ensures, ← c .before .before .magnitude3 .ensures, c .before .if1 .left, c .if3 .left)
+
+pub find-largest-off-diag-spec : {M : Type 1} → statement M
+find-largest-off-diag-spec =
+    tie.close
+    (tie.spec
+    array-read-magnitude
+    magnitude-requires
+    array-read-magnitude-2
+    magnitude-requires-2
+    array-read-magnitude-3
+    magnitude-requires-3
+    returns
+    returns-2
+    returns-3
+    returns-4)

@@ -1,0 +1,12 @@
+-- Each return is one outcome of the comparison. Assumes nothing.
+use Rattle.eigen.proofs.rotation.larger.Statement.{statement}
+use Rattle.eigen.proofs.rotation.larger.Tie as tie
+
+returns : tie.Need-returns
+returns c = simp (c .if1 .taken)
+
+returns-2 : tie.Need-returns-2
+returns-2 c = simp (c .if1 .left)
+
+pub larger-spec : {M : Type 1} → statement M
+larger-spec = tie.close (tie.spec returns returns-2)
