@@ -69,6 +69,12 @@ solved2 r = record { code = r .code; pivot = r .pivot; factor = sym2 (r .factor)
 abbrev pub solved3 : SolvedAnswer → Solved3
 solved3 r = record { code = r .code; pivot = r .pivot; factor = sym3 (r .factor); solution = r .solution }
 
+abbrev pub ofSolved2 : Solved2 → SolvedAnswer
+ofSolved2 r = record { code = r .code; pivot = r .pivot; factor = r .factor .«data»; solution = r .solution }
+
+abbrev pub ofSolved3 : Solved3 → SolvedAnswer
+ofSolved3 r = record { code = r .code; pivot = r .pivot; factor = r .factor .«data»; solution = r .solution }
+
 -- s numbers in the factor, n in the solution
 abbrev pub refusedSolved : Format → ℕ → ℕ → ℕ → ℕ → SolvedAnswer
 refusedSolved f s n code pivot = record { code = code; pivot = pivot; factor = zeros f s; solution = zeros f n }

@@ -59,6 +59,9 @@ pub record Eigen2Answer : Type 0 where
 abbrev pub eigen2 : Eigen2Answer → Eigen2
 eigen2 r = record { code = r .code; settled = r .settled; values = r .values; vectors = mat2 (r .vectors) }
 
+abbrev pub ofEigen2 : Eigen2 → Eigen2Answer
+ofEigen2 r = record { code = r .code; settled = r .settled; values = r .values; vectors = r .vectors .«data» }
+
 abbrev pub refused2 : Format → ℕ → Eigen2Answer
 refused2 f k = record { code = k; settled = false; values = zeros f 2; vectors = zeros f 4 }
 

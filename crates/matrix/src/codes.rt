@@ -9,6 +9,12 @@ pub const INPUT_LENGTH: u8 = 1;
 // An output slice of wrong length.
 pub const OUTPUT_LENGTH: u8 = 2;
 
+// A kind that is none.
+pub const UNKNOWN_KIND: u8 = 3;
+
+// A reserved byte or an unused number that is not all zero bits.
+pub const RESERVED: u8 = 4;
+
 // A used input number is NaN or infinite.
 pub const INPUT_NOT_FINITE: u8 = 5;
 
