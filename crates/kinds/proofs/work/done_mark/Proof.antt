@@ -1,0 +1,13 @@
+-- The mark is that of code 0. Assumes nothing.
+use borrow.Author.Tests.{eq-eqb, ne-eqb}
+use Rattle.kinds.proofs.work.done_mark.Statement.{statement}
+use Rattle.kinds.proofs.work.done_mark.Tie as tie
+
+returns : tie.Need-returns
+returns c = rw (eq-eqb _ 0 (c .if1 .taken))
+
+returns-2 : tie.Need-returns-2
+returns-2 c = rw (ne-eqb _ 0 (c .if1 .left))
+
+pub done-mark-spec : {M : Type 1} → statement M
+done-mark-spec = tie.close (tie.spec returns returns-2)

@@ -1,0 +1,203 @@
+-- Each arm is the choice of its kind; the kernel and what is made of its answer are those of the definition. Assumes nothing.
+use mathlib.Core.Path.{_≡_, sym, ap, _∙_}
+use Prim.Native.Nat.{ℕ}
+use borrow.Author.Needs.{needs}
+use borrow.Author.Tests.{ne-eqb}
+use lib.Ieee.{binary64}
+use Rattle.kinds.specs.Work.{worked, workOf}
+use Rattle.kinds.proofs.work.work.Statement.{statement}
+use Rattle.kinds.proofs.work.work.Tie as tie
+
+sym2-requires : tie.Need-sym2-requires
+sym2-requires c κs = search needs
+
+eigen-requires : tie.Need-eigen-requires
+eigen-requires c κs = search needs
+
+from-eigen2-requires : tie.Need-from-eigen2-requires
+from-eigen2-requires c κs = search needs
+
+sym3-requires : tie.Need-sym3-requires
+sym3-requires c κs = search needs
+
+eigen-jacobi-requires : tie.Need-eigen-jacobi-requires
+eigen-jacobi-requires c κs = search needs
+
+from-eigen3-requires : tie.Need-from-eigen3-requires
+from-eigen3-requires c κs = search needs
+
+mat2-requires : tie.Need-mat2-requires
+mat2-requires c κs = search needs
+
+svd-requires : tie.Need-svd-requires
+svd-requires c κs = search needs
+
+from-svd2-requires : tie.Need-from-svd2-requires
+from-svd2-requires c κs = search needs
+
+mat3-requires : tie.Need-mat3-requires
+mat3-requires c κs = search needs
+
+svd-requires-2 : tie.Need-svd-requires-2
+svd-requires-2 c κs = search needs
+
+from-svd3-requires : tie.Need-from-svd3-requires
+from-svd3-requires c κs = search needs
+
+sym2-requires-2 : tie.Need-sym2-requires-2
+sym2-requires-2 c κs = search needs
+
+cholesky-2x2-explicit-factor-requires : tie.Need-cholesky-2x2-explicit-factor-requires
+cholesky-2x2-explicit-factor-requires c κs = search needs
+
+from-factor2-requires : tie.Need-from-factor2-requires
+from-factor2-requires c κs = search needs
+
+sym3-requires-2 : tie.Need-sym3-requires-2
+sym3-requires-2 c κs = search needs
+
+cholesky-3x3-explicit-factor-requires : tie.Need-cholesky-3x3-explicit-factor-requires
+cholesky-3x3-explicit-factor-requires c κs = search needs
+
+from-factor3-requires : tie.Need-from-factor3-requires
+from-factor3-requires c κs = search needs
+
+sym2-requires-3 : tie.Need-sym2-requires-3
+sym2-requires-3 c κs = search needs
+
+array-read-t26 : tie.Need-array-read-t26
+array-read-t26 c = search needs
+
+array-read-t29 : tie.Need-array-read-t29
+array-read-t29 c = search needs
+
+factor-and-solve-requires : tie.Need-factor-and-solve-requires
+factor-and-solve-requires c κs = search needs
+
+from-solved2-requires : tie.Need-from-solved2-requires
+from-solved2-requires c κs = search needs
+
+sym3-requires-3 : tie.Need-sym3-requires-3
+sym3-requires-3 c κs = search needs
+
+array-read-t35 : tie.Need-array-read-t35
+array-read-t35 c = search needs
+
+array-read-t38 : tie.Need-array-read-t38
+array-read-t38 c = search needs
+
+array-read-t41 : tie.Need-array-read-t41
+array-read-t41 c = search needs
+
+factor-and-solve-requires-2 : tie.Need-factor-and-solve-requires-2
+factor-and-solve-requires-2 c κs = search needs
+
+from-solved3-requires : tie.Need-from-solved3-requires
+from-solved3-requires c κs = search needs
+
+refused-requires : tie.Need-refused-requires
+refused-requires c κs = search needs
+
+returns : tie.Need-returns
+unfolding workOf
+returns c =
+    let a = c .before .before .before .before .args in
+    (rw (c .before .eigen .ensures, c .before .before .sym2 .ensures) at (c .from-eigen2 .ensures))
+    ∙ sym (ap (λ (k : ℕ). worked (workOf binary64 k (a .nine) (a .t3))) (c .before .before .before .match .keys1))
+
+returns-2 : tie.Need-returns-2
+unfolding workOf
+returns-2 c =
+    let a = c .before .before .before .before .args in
+    (rw (c .before .eigen-jacobi .ensures, c .before .before .sym3 .ensures) at (c .from-eigen3 .ensures))
+    ∙ sym (ap (λ (k : ℕ). worked (workOf binary64 k (a .nine) (a .t3))) (c .before .before .before .match .keys2))
+
+returns-3 : tie.Need-returns-3
+unfolding workOf
+returns-3 c =
+    let a = c .before .before .before .before .args in
+    (rw (c .before .svd .ensures, c .before .before .mat2 .ensures) at (c .from-svd2 .ensures))
+    ∙ sym (ap (λ (k : ℕ). worked (workOf binary64 k (a .nine) (a .t3))) (c .before .before .before .match .keys3))
+
+returns-4 : tie.Need-returns-4
+unfolding workOf
+returns-4 c =
+    let a = c .before .before .before .before .args in
+    (rw (c .before .svd2 .ensures, c .before .before .mat3 .ensures) at (c .from-svd3 .ensures))
+    ∙ sym (ap (λ (k : ℕ). worked (workOf binary64 k (a .nine) (a .t3))) (c .before .before .before .match .keys4))
+
+returns-5 : tie.Need-returns-5
+unfolding workOf
+returns-5 c =
+    let a = c .before .before .before .before .args in
+    (rw (c .before .cholesky-2x2-explicit-factor .ensures, c .before .before .sym22 .ensures) at (c .from-factor2 .ensures))
+    ∙ sym (ap (λ (k : ℕ). worked (workOf binary64 k (a .nine) (a .t3))) (c .before .before .before .match .keys5))
+
+returns-6 : tie.Need-returns-6
+unfolding workOf
+returns-6 c =
+    let a = c .before .before .before .before .args in
+    (rw (c .before .cholesky-3x3-explicit-factor .ensures, c .before .before .sym32 .ensures) at (c .from-factor3 .ensures))
+    ∙ sym (ap (λ (k : ℕ). worked (workOf binary64 k (a .nine) (a .t3))) (c .before .before .before .match .keys6))
+
+returns-7 : tie.Need-returns-7
+unfolding workOf
+returns-7 c =
+    let a = c .before .before .before .before .args in
+    (rw (c .before .factor-and-solve .ensures, c .before .before .sym23 .ensures) at (c .from-solved2 .ensures))
+    ∙ sym (ap (λ (k : ℕ). worked (workOf binary64 k (a .nine) (a .t3))) (c .before .before .before .match .keys7))
+
+returns-8 : tie.Need-returns-8
+unfolding workOf
+returns-8 c =
+    let a = c .before .before .before .before .args in
+    (rw (c .before .factor-and-solve2 .ensures, c .before .before .sym33 .ensures) at (c .from-solved3 .ensures))
+    ∙ sym (ap (λ (k : ℕ). worked (workOf binary64 k (a .nine) (a .t3))) (c .before .before .before .match .keys8))
+
+returns-9 : tie.Need-returns-9
+unfolding workOf
+returns-9 c = let r = c .before .match .rest in rw (ne-eqb _ 1 (r .0 .0 .0 .0 .0 .0 .0 .1), ne-eqb _ 2 (r .0 .0 .0 .0 .0 .0 .1), ne-eqb _ 3 (r .0 .0 .0 .0 .0 .1), ne-eqb _ 4 (r .0 .0 .0 .0 .1), ne-eqb _ 5 (r .0 .0 .0 .1), ne-eqb _ 6 (r .0 .0 .1), ne-eqb _ 7 (r .0 .1), ne-eqb _ 8 (r .1)) (c .refused .ensures)
+
+pub work-spec : {M : Type 1} → statement M
+work-spec =
+    tie.close
+    (tie.spec
+    sym2-requires
+    eigen-requires
+    from-eigen2-requires
+    sym3-requires
+    eigen-jacobi-requires
+    from-eigen3-requires
+    mat2-requires
+    svd-requires
+    from-svd2-requires
+    mat3-requires
+    svd-requires-2
+    from-svd3-requires
+    sym2-requires-2
+    cholesky-2x2-explicit-factor-requires
+    from-factor2-requires
+    sym3-requires-2
+    cholesky-3x3-explicit-factor-requires
+    from-factor3-requires
+    sym2-requires-3
+    array-read-t26
+    array-read-t29
+    factor-and-solve-requires
+    from-solved2-requires
+    sym3-requires-3
+    array-read-t35
+    array-read-t38
+    array-read-t41
+    factor-and-solve-requires-2
+    from-solved3-requires
+    refused-requires
+    returns
+    returns-2
+    returns-3
+    returns-4
+    returns-5
+    returns-6
+    returns-7
+    returns-8
+    returns-9)

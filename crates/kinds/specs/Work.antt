@@ -1,0 +1,126 @@
+-- What each kind answers: the one place that hands numbers to a kernel and takes its values back. Definitions only.
+use mathlib.Core.Bool.{Bool, true, false}
+use mathlib.Core.List.{List}
+use Prim.Native.Nat.{ℕ}
+use lib.Dec.{eqb, ltb}
+use lib.Ieee.{Float, Format, binary64}
+use Rattle.float.specs.Choice.{pick}
+use Rattle.float.specs.Constants.{zeroF}
+use Rattle.matrix.specs.Answer.{zeros}
+use Rattle.matrix.specs.Places.{at, tabulate}
+use Rattle.cholesky.specs.Factor.{FactorAnswer, factor2Of, factor3Of}
+use Rattle.cholesky.specs.Solve.{SolvedAnswer, factorAndSolve2Of, factorAndSolve3Of}
+use Rattle.eigen.specs.Eigen2x2.{Eigen2Answer, eigen2Of}
+use Rattle.eigen.specs.Eigen3x3.{EigenAnswer, eigenOf}
+use Rattle.svd.specs.Svd2x2.{Svd2Answer, svd2Of}
+use Rattle.svd.specs.Svd3x3.{SvdAnswer, svdOf}
+use Rattle.kinds.specs.declared.work.Worked.{Worked}
+
+-- a kernel's answer as a record has it: three values, nine numbers left and nine right
+pub record KindAnswer : Type 0 where
+  pub code : ℕ
+  pub count : ℕ
+  pub settled : ℕ
+  pub values : List Float
+  pub left : List Float
+  pub right : List Float
+
+abbrev pub worked : KindAnswer → Worked
+worked w = record { code = w .code; count = w .count; settled = w .settled; values = w .values; left = w .left; right = w .right }
+
+-- ---- numbers in and out
+
+-- the first k of the numbers
+abbrev pub firstOf : ℕ → List Float → List Float
+firstOf k xs = tabulate k (at xs)
+
+-- the first k of the numbers in n places, and +0 in the others
+abbrev pub padded : Format → ℕ → ℕ → List Float → List Float
+padded f n k xs = tabulate n (λ (i : ℕ). pick (ltb i k) (at xs i) (zeroF f))
+
+-- the mark in byte 7
+abbrev pub markOf : Bool → ℕ
+markOf true = 1
+markOf false = 0
+
+-- the mark of a kind that makes no run of rotations: 1 with code 0
+abbrev pub doneMark : ℕ → ℕ
+doneMark code = markOf (eqb code 0)
+
+-- refused: only the code and a pivot's number
+abbrev pub refusedKind : Format → ℕ → ℕ → KindAnswer
+refusedKind f code pivot = record { code = code; count = pivot; settled = 0; values = zeros f 3; left = zeros f 9; right = zeros f 9 }
+
+-- ---- from the kernels' answers
+
+abbrev pub fromEigen2 : Format → Eigen2Answer → KindAnswer
+fromEigen2 f r = record {
+  code = r .code;
+  count = 0;
+  settled = markOf (r .settled);
+  values = padded f 3 2 (r .values);
+  left = padded f 9 4 (r .vectors);
+  right = zeros f 9;
+}
+
+abbrev pub fromEigen3 : Format → EigenAnswer → KindAnswer
+fromEigen3 f r = record {
+  code = r .code;
+  count = r .count;
+  settled = markOf (r .settled);
+  values = padded f 3 3 (r .values);
+  left = padded f 9 9 (r .vectors);
+  right = zeros f 9;
+}
+
+abbrev pub fromSvd2 : Format → Svd2Answer → KindAnswer
+fromSvd2 f r = record {
+  code = r .code;
+  count = 0;
+  settled = markOf (r .settled);
+  values = padded f 3 2 (r .values);
+  left = padded f 9 4 (r .u);
+  right = padded f 9 4 (r .v);
+}
+
+abbrev pub fromSvd3 : Format → SvdAnswer → KindAnswer
+fromSvd3 f r = record {
+  code = r .code;
+  count = r .count;
+  settled = markOf (r .settled);
+  values = padded f 3 3 (r .values);
+  left = padded f 9 9 (r .u);
+  right = padded f 9 9 (r .v);
+}
+
+-- a factor of s numbers; on refusal its early writes are no answer
+abbrev pub wholeFactor : Format → List Float → KindAnswer
+wholeFactor f left = record { code = 0; count = 0; settled = 1; values = zeros f 3; left = left; right = zeros f 9 }
+
+unfoldable pub fromFactor : Format → ℕ → FactorAnswer → KindAnswer
+fromFactor f s r = pick (eqb (r .code) 0) (wholeFactor f (padded f 9 s (r .factor))) (refusedKind f (r .code) (r .pivot))
+
+-- a factor of s numbers and a solution of n
+abbrev pub fromSolved : Format → ℕ → ℕ → SolvedAnswer → KindAnswer
+fromSolved f s n r = record {
+  code = r .code;
+  count = r .pivot;
+  settled = doneMark (r .code);
+  values = padded f 3 n (r .solution);
+  left = padded f 9 s (r .factor);
+  right = zeros f 9;
+}
+
+-- ---- the kinds; 3 for any other
+
+unfoldable pub workOf : Format → ℕ → List Float → List Float → KindAnswer
+workOf f kind nine three =
+    pick (eqb kind 1) (fromEigen2 f (eigen2Of f (firstOf 3 nine)))
+    (pick (eqb kind 2) (fromEigen3 f (eigenOf f (firstOf 6 nine)))
+    (pick (eqb kind 3) (fromSvd2 f (svd2Of f (firstOf 4 nine)))
+    (pick (eqb kind 4) (fromSvd3 f (svdOf f (firstOf 9 nine)))
+    (pick (eqb kind 5) (fromFactor f 3 (factor2Of f (zeros f 3) (firstOf 3 nine)))
+    (pick (eqb kind 6) (fromFactor f 6 (factor3Of f (zeros f 6) (firstOf 6 nine)))
+    (pick (eqb kind 7) (fromSolved f 3 2 (factorAndSolve2Of f (firstOf 3 nine) (firstOf 2 three)))
+    (pick (eqb kind 8) (fromSolved f 6 3 (factorAndSolve3Of f (firstOf 6 nine) (firstOf 3 three)))
+    (refusedKind f 3 0))))))))

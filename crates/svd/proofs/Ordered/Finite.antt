@@ -1,0 +1,64 @@
+-- What an answer with code 0 puts in order is finite: a finite list is so at each place, a matrix keeps its nine places, and a magnitude is finite where its number is. Assumes nothing.
+use mathlib.Core.Path.{_≡_, refl, subst⁻¹}
+use mathlib.Core.Bool.{Bool, true, false, _&&_, false≢true}
+use mathlib.Core.List.{List, [], _∷_}
+use Prim.Native.Nat.{ℕ, zero, suc, _<_}
+use native.Mathlib.Omega.{arith}
+use lib.ListN.{length}
+use lib.Ieee.{Float, Format, nan, inf, fin}
+use Rattle.float.specs.Sign.{magnitudeOf, signBitOf, finite, allFinite}
+use Rattle.matrix.specs.Places.{at}
+use Rattle.eigen.specs.Run.{run, after}
+use Rattle.eigen.specs.declared.pairs.Pair.{Pair}
+use Rattle.eigen.specs.declared.pairs.Pair.the-variants.{P12, P13, P23}
+use Rattle.eigen.proofs.Run.{ran}
+use Rattle.svd.specs.Polar.{Sides}
+use Rattle.svd.specs.Pairs.{appliedOf}
+use Rattle.svd.specs.Svd3x3.{State, settledOf, stepOf, workOf}
+
+-- ---- places of a finite list
+
+both-true : (a b : Bool) → a && b ≡ true → (a ≡ true) × (b ≡ true)
+both-true true b h = (refl, h)
+both-true false b h = absurd (false≢true h)
+
+pub at-finite : (xs : List Float) → allFinite xs ≡ true → (i : ℕ) → i < length xs → finite (at xs i) ≡ true
+unfolding allFinite
+at-finite [] e i h = absurd (omega arith)
+at-finite (x ∷ xs) e zero h = both-true (finite x) (allFinite xs) e .0
+at-finite (x ∷ xs) e (suc i) h = at-finite xs (both-true (finite x) (allFinite xs) e .1) i (omega arith)
+
+-- ---- magnitudes
+
+pub magnitude-finite : (x : Float) → finite x ≡ true → finite (magnitudeOf x) ≡ true
+unfolding magnitudeOf finite
+magnitude-finite nan h = h
+magnitude-finite (inf s) h = h
+magnitude-finite (fin s m e) h = h
+
+pub magnitude-unsigned : (x : Float) → signBitOf (magnitudeOf x) ≡ false
+unfolding magnitudeOf signBitOf
+magnitude-unsigned nan = refl
+magnitude-unsigned (inf s) = refl
+magnitude-unsigned (fin s m e) = refl
+
+-- ---- what each step keeps, the run keeps
+
+module _ {S : Type 0} (step : S → S) (done : S → Bool) (P : S → Type 0) (kept : (s : S) → P (step s)) where
+  after-keeps : (n : ℕ) (s : S) → P s → P (after step done n s)
+  unfolding after
+  after-keeps zero s p = p
+  after-keeps (suc n) s p = after-keeps n (step s) (kept s)
+
+  run-keeps : (k : ℕ) (s : S) → P s → P (run step done k s)
+  run-keeps k s p = let r = ran step done k s in subst⁻¹ P (r .1 .stands) (after-keeps (r .0) s p)
+
+applied-nine : (f : Format) (p : Pair) (r : Sides) (a : List Float) → length (appliedOf f p r a) ≡ 9
+unfolding appliedOf
+applied-nine f P12 r a = refl
+applied-nine f P13 r a = refl
+applied-nine f P23 r a = refl
+
+pub work-nine : (f : Format) (k : ℕ) (s : State) → length (s .matrix) ≡ 9 → length (workOf f k s .matrix) ≡ 9
+unfolding workOf stepOf
+work-nine f = run-keeps (stepOf f) (λ (s : State). settledOf f (s .matrix)) (λ (s : State). length (s .matrix) ≡ 9) (λ s. applied-nine f _ _ (s .matrix))

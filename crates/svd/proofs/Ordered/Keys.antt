@@ -1,0 +1,87 @@
+-- Finite floats as natural numbers, their keys: an exchange leaves the larger of two keys at the first place and the smaller at the second. Assumes nothing.
+use mathlib.Core.Path.{_≡_, refl, sym, ap, _∙_}
+use mathlib.Core.Bool.{Bool, true, false, _||_, true≢false}
+use Prim.Native.Nat.{ℕ, _≤_, _<_, min, max}
+use native.Mathlib.Omega.{arith}
+use borrow.Author.Tests.{ltb-true, ltb-false, eq-eqb}
+use lib.Dec.{ltb, eqb}
+use lib.IntN.{pos}
+use lib.Ieee.{Float, Format, binary32, binary64, nan, inf, fin, lt, le, ofBits}
+use Rattle.float.specs.Choice.{pick}
+use Rattle.float.specs.Constants.{zeroF}
+use Rattle.float.specs.Sign.{signBitOf, finite}
+use Rattle.float.proofs.Keys.{key, Within, lt-key, eq-key, keyed}
+use Rattle.matrix.specs.Places.{at}
+use Rattle.matrix.specs.Square.{exchanged}
+use Rattle.matrix.proofs.Tables.{at-tabulate}
+use Rattle.svd.specs.Order.{Factors}
+use Rattle.svd.proofs.Ordered.Moves.{Two, swapped, sortedAt}
+
+-- ---- order by keys
+
+le-tests : (a b : ℕ) → a ≤ b → ltb a b || eqb a b ≡ true
+le-tests a b h = go (ltb a b) refl
+  where
+    go : (t : Bool) → ltb a b ≡ t → t || eqb a b ≡ true
+    go true e = refl
+    go false e = let l = ltb-false a b e in eq-eqb a b (omega arith)
+
+pub le-key : (L K : ℕ) (x y : Float) → Within L K x → Within L K y → key L K x ≤ key L K y → le x y ≡ true
+unfolding le
+le-key L K x y p q h = rw (lt-key L K x y p q, eq-key L K x y p q) (le-tests (key L K x) (key L K y) h)
+
+-- ---- a finite number without a sign is at least zero
+
+zero-is : (f : Format) → zeroF f ≡ fin false 0 (pos 0)
+unfolding ofBits
+zero-is binary32 = refl
+zero-is binary64 = refl
+
+pub zero-least : (f : Format) (x : Float) → finite x ≡ true → signBitOf x ≡ false → le (zeroF f) x ≡ true
+unfolding finite signBitOf
+zero-least f nan h n = absurd (true≢false (sym h))
+zero-least f (inf s) h n = absurd (true≢false (sym h))
+zero-least f (fin true m e) h n = absurd (true≢false n)
+zero-least f (fin false m e) h n =
+    let z = fin false 0 (pos 0) in
+    let x = fin false m e in
+    let g = keyed z x x refl refl refl in
+    rw (zero-is f) (le-key (g .L) (g .K) z x (g .one) (g .two) (omega arith))
+
+-- ---- the keys that an exchange leaves
+
+module _ (L K : ℕ) where
+  abbrev pub keyAt : Factors → ℕ → ℕ
+  keyAt w c = key L K (at (w .values) c)
+
+  -- the larger key at i, the smaller at j
+  pub record Placed (i j : ℕ) (x y : Factors) : Type 0 where
+    pub larger : keyAt y i ≡ max (keyAt x i) (keyAt x j)
+    pub smaller : keyAt y j ≡ min (keyAt x i) (keyAt x j)
+
+  module _ {n i j : ℕ} (two : Two n i j) (w : Factors) where
+    -- what stands at c stood at d
+    from : (c : ℕ) → c < n → {d : ℕ} → exchanged i j c ≡ d → keyAt (swapped n i j w) c ≡ keyAt w d
+    from c h e = ap (key L K) (at-tabulate n (λ (c : ℕ). at (w .values) (exchanged i j c)) c h ∙ ap (at (w .values)) e)
+
+    pub sort-places : ((c : ℕ) → c < n → Within L K (at (w .values) c)) → Placed i j w (sortedAt n i j w)
+    sort-places h =
+        let x = at (w .values) i in
+        let y = at (w .values) j in
+        go (lt x y) (sym (lt-key L K x y (h i (two .first)) (h j (two .second))))
+      where
+        go : (t : Bool) → ltb (keyAt w i) (keyAt w j) ≡ t → Placed i j w (pick t (swapped n i j w) w)
+        go true e =
+            let l = ltb-true (keyAt w i) (keyAt w j) e in
+            let a = from i (two .first) (two .from-second) in
+            let b = from j (two .second) (two .from-first) in
+            record { larger = omega arith; smaller = omega arith }
+        go false e = let l = ltb-false (keyAt w i) (keyAt w j) e in record { larger = omega arith; smaller = omega arith }
+
+    -- a third place keeps its key
+    pub sort-keeps : (c : ℕ) → c < n → exchanged i j c ≡ c → keyAt (sortedAt n i j w) c ≡ keyAt w c
+    sort-keeps c h e = go (lt (at (w .values) i) (at (w .values) j))
+      where
+        go : (t : Bool) → keyAt (pick t (swapped n i j w) w) c ≡ keyAt w c
+        go true = from c h e
+        go false = refl

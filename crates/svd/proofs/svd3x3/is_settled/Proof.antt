@@ -1,0 +1,18 @@
+-- The sum of the largest pair and the limit are those of the definition. Assumes nothing.
+use borrow.Author.Needs.{needs}
+use lib.Ieee.{binary64}
+use Rattle.svd.proofs.Turns.{tested}
+use Rattle.svd.proofs.svd3x3.is_settled.Statement.{statement}
+use Rattle.svd.proofs.svd3x3.is_settled.Tie as tie
+
+find-largest-off-diag-nonsym-requires : tie.Need-find-largest-off-diag-nonsym-requires
+find-largest-off-diag-nonsym-requires c κs = search needs
+
+limit-requires : tie.Need-limit-requires
+limit-requires c κs = search needs
+
+returns : tie.Need-returns
+returns c = tested binary64 _ (c .before .before .find-largest-off-diag-nonsym .ensures) (c .before .limit .ensures)
+
+pub is-settled-spec : {M : Type 1} → statement M
+is-settled-spec = tie.close (tie.spec find-largest-off-diag-nonsym-requires limit-requires returns)

@@ -1,0 +1,115 @@
+-- The invariant: what is left of the run, from the state at hand, leaves what the whole run leaves. The measure is the turns left. Assumes nothing.
+use mathlib.Core.Path.{_≡_, sym, ap, _∙_}
+use mathlib.Core.Bool.{Bool}
+use Prim.Native.Nat.{ℕ, _+_, _-_, _≤_}
+use native.Mathlib.Omega.{arith}
+use borrow.Author.Needs.{needs}
+use lib.Ieee.{binary64}
+use Rattle.matrix.specs.declared.square.Mat3.{Mat3}
+use Rattle.eigen.proofs.Run.{leaves, turns-once, used-up}
+use Rattle.svd.specs.Svd3x3.{State, working, settledOf, stepOf, workOf, startOf}
+use Rattle.svd.proofs.Turns.{tested, next-state}
+use Rattle.svd.proofs.svd3x3.work.Statement.{statement}
+use Rattle.svd.proofs.svd3x3.work.Tie as tie
+
+abbrev state : Mat3 → Mat3 → Mat3 → ℕ → State
+state b u v n = record { matrix = b .«data»; u = u .«data»; v = v .«data»; count = n }
+
+abbrev done : State → Bool
+done s = settledOf binary64 (s .matrix)
+
+abbrev Inv-loop : tie.InvT-loop
+Inv-loop b₀ u₀ v₀ count₀ b u v count = (count ≤ 25) × (workOf binary64 (25 - count) (state b u v count) ≡ workOf binary64 25 (startOf binary64 (b₀ .«data»)))
+
+abbrev μ-loop : tie.MeasureT-loop
+μ-loop b₀ u₀ v₀ count₀ b u v count = 25 - count
+
+zeros-requires : tie.Need-zeros-requires Inv-loop μ-loop
+zeros-requires c κs = search needs
+
+set-identity-requires : tie.Need-set-identity-requires Inv-loop μ-loop
+set-identity-requires c κs = search needs
+
+zeros-requires-2 : tie.Need-zeros-requires-2 Inv-loop μ-loop
+zeros-requires-2 c κs = search needs
+
+set-identity-requires-2 : tie.Need-set-identity-requires-2 Inv-loop μ-loop
+set-identity-requires-2 c κs = search needs
+
+loop-holds : tie.Need-loop-holds Inv-loop μ-loop
+loop-holds c = (omega arith, rw (c .set-identity2 .ensures, c .before .before .set-identity .ensures))
+
+find-largest-off-diag-nonsym-requires : tie.Need-find-largest-off-diag-nonsym-requires Inv-loop μ-loop
+find-largest-off-diag-nonsym-requires c κs = search needs
+
+limit-requires : tie.Need-limit-requires Inv-loop μ-loop
+limit-requires c κs = search needs
+
+returns : tie.Need-returns Inv-loop μ-loop
+unfolding workOf
+returns c =
+    let l = c .before .before .before .before .before .loop in
+    let h = sym (tested binary64 (l .b .«data») (c .before .before .before .find-largest-off-diag-nonsym .ensures) (c .before .before .limit .ensures)) ∙ c .if1 .taken in
+    ap working (leaves (stepOf binary64) done 25 (l .count) (state (l .b) (l .u) (l .v) (l .count)) h (l .inv .1))
+
+rotation-of-requires : tie.Need-rotation-of-requires Inv-loop μ-loop
+rotation-of-requires c κs = search needs
+
+apply-two-sided-rotation-requires : tie.Need-apply-two-sided-rotation-requires Inv-loop μ-loop
+apply-two-sided-rotation-requires c κs = search needs
+
+turn-columns-requires : tie.Need-turn-columns-requires Inv-loop μ-loop
+turn-columns-requires c κs = search needs
+
+turn-columns-requires-2 : tie.Need-turn-columns-requires-2 Inv-loop μ-loop
+turn-columns-requires-2 c κs = search needs
+
+add-count : tie.Need-add-count Inv-loop μ-loop
+add-count c = search needs
+
+loop-less : tie.Need-loop-less Inv-loop μ-loop
+loop-less c = search needs
+
+loop-again : tie.Need-loop-again Inv-loop μ-loop
+unfolding workOf
+loop-again c =
+    let e = c .before .before .before .before in
+    let l = e .before .before .before .before .before .loop in
+    let o = e .before .before .before .find-largest-off-diag-nonsym .ensures in
+    let h = sym (tested binary64 (l .b .«data») o (e .before .before .limit .ensures)) ∙ e .if1 .left in
+    let s =
+    next-state binary64 (l .b .«data») o (l .count) (l .u .«data») (l .v .«data») (c .before .before .before .rotation-of .ensures)
+    (c .before .before .apply-two-sided-rotation .ensures) (c .before .turn-columns .ensures) (c .turn-columns2 .ensures) in (
+      omega arith,
+      ap (workOf binary64 (25 - (l .count + 1))) s
+          ∙ turns-once (stepOf binary64) done 25 (l .count) (state (l .b) (l .u) (l .v) (l .count)) (omega arith) h (l .inv .1),
+    )
+
+returns-2 : tie.Need-returns-2 Inv-loop μ-loop
+unfolding workOf
+returns-2 c =
+    let l = c .before .loop in
+    ap working (used-up (stepOf binary64) done 25 (l .count) (state (l .b) (l .u) (l .v) (l .count)) (omega arith) (l .inv .1))
+
+pub work-spec : {M : Type 1} → statement M
+work-spec =
+    tie.close
+    (tie.spec
+    Inv-loop
+    μ-loop
+    zeros-requires
+    set-identity-requires
+    zeros-requires-2
+    set-identity-requires-2
+    loop-holds
+    find-largest-off-diag-nonsym-requires
+    limit-requires
+    returns
+    rotation-of-requires
+    apply-two-sided-rotation-requires
+    turn-columns-requires
+    turn-columns-requires-2
+    add-count
+    loop-less
+    loop-again
+    returns-2)

@@ -1,0 +1,5 @@
+pub mod Polar
+pub mod Pairs
+pub mod Order
+pub mod Svd3x3
+pub mod Svd2x2
