@@ -34,6 +34,19 @@ pub fn run(subject: &'static Subject, count: u64, seed: u64, probe: &[String]) -
     Ok(differences == 0 && missed == 0)
 }
 
+/// Prints the counts of so many inputs, with nothing to compare, and says whether each branch was hit.
+pub fn survey(subject: &Subject, count: u64, seed: u64) -> bool {
+    let mut random = Random::new(seed);
+    let mut hits = Hits(vec![0; subject.branches.len()]);
+    let mut words = vec![0; subject.words_in];
+    let mut right = vec![0; subject.words_out];
+    for number in 0..count {
+        (subject.input)(&mut random, number, &mut words, &mut hits);
+        (subject.answer)(&words, &mut right, &mut hits);
+    }
+    show(subject, &hits) == 0
+}
+
 fn start(probe: &[String]) -> io::Result<Child> {
     Command::new(&probe[0])
         .args(&probe[1..])

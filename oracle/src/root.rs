@@ -1,6 +1,7 @@
 //! The root against Rust's f64::sqrt.
 
 use crate::float::{bits, listed, parts, subnormal, HIDDEN, INFINITY, SIGN};
+use crate::numbers::power_of_two;
 use crate::random::Random;
 use crate::subject::{branches, Hits, Subject};
 use std::cmp::Ordering;
@@ -63,15 +64,6 @@ fn input(random: &mut Random, number: u64, words: &mut [u64], hits: &mut Hits) {
     };
     hits.hit(kind as usize);
     words[0] = pattern;
-}
-
-/// 2^e, for e from -1074 to 1023.
-fn power_of_two(e: i64) -> f64 {
-    f64::from_bits(if e < -1022 {
-        1 << (e + 1074)
-    } else {
-        (e + 1023) as u64 * HIDDEN
-    })
 }
 
 /// The square of a whole number, times a power of four.

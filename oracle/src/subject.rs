@@ -25,16 +25,23 @@ pub struct Subject {
     pub answer: fn(&[u64], &mut [u64], &mut Hits),
 }
 
+/// The first so many of a list whose last branches a small size does not have.
+pub const fn first(names: &'static [&'static str], count: usize) -> &'static [&'static str] {
+    names.split_at(count).0
+}
+
 /// Names for branches, each with the text that a run prints.
 macro_rules! branches {
-    ($name:ident { $($case:ident = $text:literal,)* }) => {
+    ($vis:vis $name:ident { $($case:ident = $text:literal,)* }) => {
+        // some are hit by their number; a run shows one that nothing hits
+        #[allow(dead_code)]
         #[derive(Clone, Copy)]
-        enum $name {
+        $vis enum $name {
             $($case,)*
         }
 
         impl $name {
-            const NAMES: &'static [&'static str] = &[$($text,)*];
+            $vis const NAMES: &'static [&'static str] = &[$($text,)*];
         }
     };
 }

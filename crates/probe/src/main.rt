@@ -3,7 +3,12 @@
 // Standard input has a header of 8 bytes: the operation, the words of an item (1 to 40), the words of an answer (1 to 64), and
 // five zeros. Then come items, to its end. Each whole item is answered; a part of one at the end is dropped.
 mod items;
+mod numbers;
+mod of_cholesky;
+mod of_eigen;
 mod of_float;
+mod of_matrix;
+mod of_svd;
 mod operations;
 mod words;
 

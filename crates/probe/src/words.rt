@@ -2,7 +2,7 @@
 ghost use Prim.Native.Nat.{_+_, _≤_, _<_};
 ghost use lib.ListN.{length};
 
-fn wide(x: u8) -> u64
+pub(crate) fn wide(x: u8) -> u64
     ensures { λ r. ⌜ r < 256 ⌝ }
 {
     x as u64

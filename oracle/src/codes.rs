@@ -1,0 +1,9 @@
+//! The port's numbers that answer.
+
+pub const DONE: u64 = 0;
+pub const INPUT_LENGTH: u64 = 1;
+pub const OUTPUT_LENGTH: u64 = 2;
+pub const INPUT_NOT_FINITE: u64 = 5;
+pub const PIVOT: u64 = 6;
+pub const ANSWER_NOT_FINITE: u64 = 7;
+pub const OUTSIDE: u64 = 8;
