@@ -30,6 +30,11 @@ fn subnormal(words: &mut Words) -> f64 {
     f64::from_bits(digits.max(1))
 }
 
+/// Any multiple of 2^-52 from -1 on and below 1, each as likely as any other.
+fn of_ordinary_size(words: &mut Words) -> f64 {
+    words.below(1 << 53) as f64 / (1u64 << 52) as f64 - 1.0
+}
+
 pub fn normals(count: usize) -> Vec<f64> {
     let mut words = Words(1);
     (0..count).map(|_| normal(&mut words)).collect()
@@ -42,4 +47,9 @@ pub fn half_subnormals(count: usize) -> Vec<f64> {
     (0..count)
         .map(|_| kinds[words.below(2) as usize](&mut words))
         .collect()
+}
+
+pub fn ordinary(count: usize) -> Vec<f64> {
+    let mut words = Words(3);
+    (0..count).map(|_| of_ordinary_size(&mut words)).collect()
 }

@@ -1,7 +1,11 @@
 //! Times the proved functions beside what does the same work in Rust or in hardware. One function makes
 //! each printed line, and `LINES` names them all.
 
+#[cfg(clarabel)]
+mod algebra;
 mod inputs;
+#[cfg(clarabel)]
+mod kernels;
 mod machine;
 mod race;
 
@@ -9,7 +13,15 @@ use race::{race, Race};
 use std::hint::black_box;
 use std::process::ExitCode;
 
-const LINES: &[fn() -> Result<Race, String>] = &[root, root_with_subnormals];
+/// Those beside the crate's own kernels are there only where its source is.
+const LINES: &[fn() -> Result<Race, String>] = &[
+    root,
+    root_with_subnormals,
+    #[cfg(clarabel)]
+    kernels::eigen_3x3,
+    #[cfg(clarabel)]
+    kernels::svd_3x3,
+];
 
 /// So many numbers stay in the nearest cache, and a turn over them is far longer than a tick of the clock.
 const NUMBERS: usize = 4096;

@@ -1,4 +1,8 @@
 // Kernels as C functions, for a host that looks at bits no contract can name, and for timing beside the Rust.
+pub mod kernels;
+pub mod moves;
+mod slices;
+
 ghost use mathlib.Core.Path.{_≡_};
 ghost use lib.Ieee.{binary64};
 ghost use Rattle.float.specs.Sign.{signumOf, signumBitsOf};

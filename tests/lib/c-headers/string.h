@@ -2,7 +2,7 @@
 #ifndef KIT_STRING_H
 #define KIT_STRING_H
 
-typedef __SIZE_TYPE__ size_t;
+#include <stddef.h>
 
 void *memcpy(void *restrict to, const void *restrict from, size_t length);
 

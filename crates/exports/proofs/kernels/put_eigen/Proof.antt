@@ -1,0 +1,31 @@
+-- Each part stands behind those before it, and the last ends at the end. Assumes nothing.
+use mathlib.Core.Path.{sym, _∙_}
+use borrow.Author.Needs.{needs}
+use lib.Seq.{take-all}
+use Rattle.eigen.specs.Eigen3x3.{ofEigen3}
+use Rattle.exports.specs.Kernels.{eigenNumbers}
+use Rattle.exports.proofs.kernels.put_eigen.Statement.{statement}
+use Rattle.exports.proofs.kernels.put_eigen.Tie as tie
+
+put-three-requires : tie.Need-put-three-requires
+put-three-requires c κs = search needs
+
+put-mat3-requires : tie.Need-put-mat3-requires
+put-mat3-requires c κs = search needs
+
+put-sym3-requires : tie.Need-put-sym3-requires
+put-sym3-requires c κs = search needs
+
+same-length : tie.Need-same-length
+same-length c = search needs
+
+returns : tie.Need-returns
+returns c =
+    let e₁ = c .before .before .before .before .before .before .before .before .before .before .put-three .ensures in
+    let e₂ = rw e₁ at (c .before .before .before .before .before .before .put-mat3 .ensures) in
+    let e₃ = rw e₂ at (c .before .before .put-sym3 .ensures) in
+    _∙_ {c = eigenNumbers (ofEigen3 (c .before .before .before .before .before .before .before .before .before .before .before .before .before .before .before .before .args .r))} (sym (take-all 18 (c .before .before .put-sym3 .last .0) (search needs))) e₃
+
+pub put-eigen-spec : {M : Type 1} → statement M
+put-eigen-spec =
+    tie.close (tie.spec put-three-requires put-mat3-requires put-sym3-requires same-length returns)

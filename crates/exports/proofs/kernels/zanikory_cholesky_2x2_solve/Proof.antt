@@ -1,0 +1,41 @@
+-- Both lengths passed, the solution answers. Assumes nothing.
+use mathlib.Core.Path.{refl}
+use borrow.Author.Needs.{needs}
+use borrow.Author.Tests.{le-leb, lt-leb, eq-eqb, ne-eqb}
+use Rattle.exports.specs.Kernels.{solve2Into}
+use Rattle.exports.proofs.kernels.zanikory_cholesky_2x2_solve.Statement.{statement}
+use Rattle.exports.proofs.kernels.zanikory_cholesky_2x2_solve.Tie as tie
+
+returns : tie.Need-returns
+unfolding solve2Into
+returns c = rw (lt-leb 2 _ (c .if1 .taken)) (refl, refl)
+
+returns-2 : tie.Need-returns-2
+unfolding solve2Into
+returns-2 c = rw (le-leb 2 _ (c .before .if1 .left), ne-eqb _ 3 (c .if2 .taken)) (refl, refl)
+
+sym2-of-requires : tie.Need-sym2-of-requires
+sym2-of-requires c κs = search needs
+
+cholesky-2x2-explicit-solve-requires : tie.Need-cholesky-2x2-explicit-solve-requires
+cholesky-2x2-explicit-solve-requires c κs = search needs
+
+same-length : tie.Need-same-length
+same-length c = search needs
+
+returns-3 : tie.Need-returns-3
+unfolding solve2Into
+returns-3 c =
+    let m = c .before .before .before .before in
+    rw (le-leb 2 _ (m .before .before .if1 .left), eq-eqb _ 3 (m .before .if2 .left)) (rw (m .sym2-of .ensures) at (c .before .before .cholesky-2x2-explicit-solve .ensures))
+
+pub zanikory-cholesky-2x2-solve-spec : {M : Type 1} → statement M
+zanikory-cholesky-2x2-solve-spec =
+    tie.close
+    (tie.spec
+    returns
+    returns-2
+    sym2-of-requires
+    cholesky-2x2-explicit-solve-requires
+    same-length
+    returns-3)

@@ -1,0 +1,71 @@
+-- The lengths passed, out takes the factor that is handed back. Assumes nothing.
+use mathlib.Core.Path.{_≡_, refl}
+use native.Mathlib.Omega.{arith}
+use borrow.Author.Needs.{needs}
+use borrow.Author.Tests.{eq-eqb, ne-eqb}
+use lib.ListN.{length}
+use lib.Ieee.{binary64}
+use Rattle.cholesky.specs.Factor.{factor3, factor3Of}
+use Rattle.cholesky.specs.declared.cholesky3x3.Factor3.{Factor3}
+use Rattle.exports.specs.Kernels.{factor3Into}
+use Rattle.exports.proofs.Handing.{handed}
+use Rattle.exports.proofs.kernels.zanikory_cholesky_3x3_factor.Statement.{statement}
+use Rattle.exports.proofs.kernels.zanikory_cholesky_3x3_factor.Tie as tie
+
+returns : tie.Need-returns
+unfolding factor3Into
+returns c = rw (ne-eqb _ 6 (c .if1 .taken)) (refl, refl)
+
+returns-2 : tie.Need-returns-2
+unfolding factor3Into
+returns-2 c = rw (eq-eqb _ 6 (c .before .if1 .left), ne-eqb _ 6 (c .if2 .taken)) (refl, refl)
+
+returns-3 : tie.Need-returns-3
+unfolding factor3Into
+returns-3 c = rw (eq-eqb _ 6 (c .before .before .if1 .left), eq-eqb _ 6 (c .before .if2 .left), ne-eqb _ 6 (c .if3 .taken)) (refl, refl)
+
+sym3-of-requires : tie.Need-sym3-of-requires
+sym3-of-requires c κs = search needs
+
+sym3-of-requires-2 : tie.Need-sym3-of-requires-2
+sym3-of-requires-2 c κs = search needs
+
+cholesky-3x3-explicit-factor-requires : tie.Need-cholesky-3x3-explicit-factor-requires
+cholesky-3x3-explicit-factor-requires c κs = search needs
+
+slice-aggregate-put : tie.Need-slice-aggregate-put
+slice-aggregate-put c = search needs
+
+put-requires : tie.Need-put-requires
+put-requires c κs =
+    let l : length (c .before .before .before .before .cholesky-3x3-explicit-factor .result .factor .«data») ≡ 6 = search needs in
+    omega arith
+
+same-length : tie.Need-same-length
+same-length c = search needs
+
+returns-4 : tie.Need-returns-4
+unfolding factor3Into
+returns-4 c =
+    let m = c .before .before .before .before .before .before .before in
+    let t = m .before .before .before in
+    let a = t .before .before .before .before .before .before .args in
+    let e : m .cholesky-3x3-explicit-factor .result ≡ factor3 (factor3Of binary64 (a .l .now) (a .a .now)) =
+    rw (m .before .before .sym3-of .ensures, m .before .sym3-of2 .ensures) at (m .cholesky-3x3-explicit-factor .ensures) in
+    rw (eq-eqb _ 6 (t .before .before .if1 .left), eq-eqb _ 6 (t .before .if2 .left), eq-eqb _ 6 (t .if3 .left))
+    (handed (λ (r : Factor3). r .code) (λ (r : Factor3). r .factor .«data») (c .before .before .put .ensures) e)
+
+pub zanikory-cholesky-3x3-factor-spec : {M : Type 1} → statement M
+zanikory-cholesky-3x3-factor-spec =
+    tie.close
+    (tie.spec
+    returns
+    returns-2
+    returns-3
+    sym3-of-requires
+    sym3-of-requires-2
+    cholesky-3x3-explicit-factor-requires
+    slice-aggregate-put
+    put-requires
+    same-length
+    returns-4)

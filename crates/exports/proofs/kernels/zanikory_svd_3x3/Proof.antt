@@ -1,0 +1,57 @@
+-- Both lengths passed, out takes the numbers of the answer, if there is one. Assumes nothing.
+use mathlib.Core.Path.{_≡_, refl, sym, ap, _∙_}
+use borrow.Author.Needs.{needs}
+use borrow.Author.Tests.{eq-eqb, ne-eqb}
+use Rattle.svd.specs.declared.svd3x3.Svd3.{Svd3}
+use Rattle.exports.specs.Kernels.{ofSvd3, svdNumbers, svd3Into}
+use Rattle.exports.proofs.kernels.zanikory_svd_3x3.Statement.{statement}
+use Rattle.exports.proofs.kernels.zanikory_svd_3x3.Tie as tie
+
+returns : tie.Need-returns
+unfolding svd3Into
+returns c = rw (ne-eqb _ 30 (c .if1 .taken)) (refl, refl)
+
+returns-2 : tie.Need-returns-2
+unfolding svd3Into
+returns-2 c = rw (eq-eqb _ 30 (c .before .if1 .left), ne-eqb _ 9 (c .if2 .taken)) (refl, refl)
+
+mat3-of-requires : tie.Need-mat3-of-requires
+mat3-of-requires c κs = search needs
+
+svd-requires : tie.Need-svd-requires
+svd-requires c κs = search needs
+
+returns-3 : tie.Need-returns-3
+unfolding svd3Into
+returns-3 c =
+    let m = c .before .before in
+    let e = ap (λ (r : Svd3). r .code) (rw (m .mat3-of .ensures) at (c .before .svd .ensures)) in
+    rw (eq-eqb _ 30 (m .before .before .if1 .left), eq-eqb _ 9 (m .before .if2 .left), ← e, ne-eqb _ 0 (c .if3 .taken)) (refl, refl)
+
+put-svd-requires : tie.Need-put-svd-requires
+put-svd-requires c κs = search needs
+
+same-length : tie.Need-same-length
+same-length c = search needs
+
+returns-4 : tie.Need-returns-4
+unfolding svd3Into
+returns-4 c =
+    let m = c .before .before .before .before .before .before in
+    let e = rw (m .mat3-of .ensures) at (c .before .before .before .before .before .svd .ensures) in
+    let k = sym (ap (λ (r : Svd3). r .code) e) ∙ c .before .before .before .before .if3 .left in
+    rw (eq-eqb _ 30 (m .before .before .if1 .left), eq-eqb _ 9 (m .before .if2 .left), eq-eqb _ 0 k)
+    (sym k, c .before .before .put-svd .ensures ∙ ap (λ (r : Svd3). svdNumbers (ofSvd3 r)) e)
+
+pub zanikory-svd-3x3-spec : {M : Type 1} → statement M
+zanikory-svd-3x3-spec =
+    tie.close
+    (tie.spec
+    returns
+    returns-2
+    mat3-of-requires
+    svd-requires
+    returns-3
+    put-svd-requires
+    same-length
+    returns-4)

@@ -1,0 +1,34 @@
+-- Both lengths passed, the product answers. Assumes nothing.
+use mathlib.Core.Path.{refl}
+use borrow.Author.Needs.{needs}
+use borrow.Author.Tests.{le-leb, lt-leb, eq-eqb, ne-eqb}
+use Rattle.exports.specs.Kernels.{packedMulOf}
+use Rattle.exports.proofs.kernels.zanikory_sym3_mul.Statement.{statement}
+use Rattle.exports.proofs.kernels.zanikory_sym3_mul.Tie as tie
+
+returns : tie.Need-returns
+unfolding packedMulOf
+returns c = rw (lt-leb 3 _ (c .if1 .taken)) (refl, refl)
+
+returns-2 : tie.Need-returns-2
+unfolding packedMulOf
+returns-2 c = rw (le-leb 3 _ (c .before .if1 .left), ne-eqb _ 6 (c .if2 .taken)) (refl, refl)
+
+sym3-of-requires : tie.Need-sym3-of-requires
+sym3-of-requires c κs = search needs
+
+mul-requires : tie.Need-mul-requires
+mul-requires c κs = search needs
+
+same-length : tie.Need-same-length
+same-length c = search needs
+
+returns-3 : tie.Need-returns-3
+unfolding packedMulOf
+returns-3 c =
+    let m = c .before .before .before .before in
+    rw (le-leb 3 _ (m .before .before .if1 .left), eq-eqb _ 6 (m .before .if2 .left)) (rw (m .sym3-of .ensures) at (c .before .before .mul .ensures))
+
+pub zanikory-sym3-mul-spec : {M : Type 1} → statement M
+zanikory-sym3-mul-spec =
+    tie.close (tie.spec returns returns-2 sym3-of-requires mul-requires same-length returns-3)

@@ -1,0 +1,57 @@
+-- Both lengths passed, out takes the matrix that the move hands back. Assumes nothing.
+use mathlib.Core.Path.{_≡_, refl}
+use native.Mathlib.Omega.{arith}
+use borrow.Author.Needs.{needs}
+use borrow.Author.Tests.{eq-eqb, ne-eqb}
+use lib.ListN.{length}
+use Rattle.matrix.specs.declared.square.Mat2Answer.{Mat2Answer}
+use Rattle.exports.specs.Moves.{movedOf}
+use Rattle.exports.proofs.Handing.{handed}
+use Rattle.exports.proofs.moves.move2.Statement.{statement}
+use Rattle.exports.proofs.moves.move2.Tie as tie
+
+returns : tie.Need-returns
+unfolding movedOf
+returns c = rw (ne-eqb _ 4 (c .if1 .taken)) (refl, refl)
+
+returns-2 : tie.Need-returns-2
+unfolding movedOf
+returns-2 c = rw (eq-eqb _ 4 (c .before .if1 .left), ne-eqb _ 4 (c .if2 .taken)) (refl, refl)
+
+mat2-of-requires : tie.Need-mat2-of-requires
+mat2-of-requires c κs = search needs
+
+moved2-requires : tie.Need-moved2-requires
+moved2-requires c κs = search needs
+
+slice-aggregate-put : tie.Need-slice-aggregate-put
+slice-aggregate-put c = search needs
+
+put-requires : tie.Need-put-requires
+put-requires c κs =
+    let l : length (c .before .before .before .before .moved2 .result .matrix .«data») ≡ 4 = search needs in
+    omega arith
+
+same-length : tie.Need-same-length
+same-length c = search needs
+
+returns-3 : tie.Need-returns-3
+unfolding movedOf
+returns-3 c =
+    let m = c .before .before .before .before .before .before .before in
+    let e = rw (m .before .mat2-of .ensures) at (m .moved2 .ensures) in
+    rw (eq-eqb _ 4 (m .before .before .before .if1 .left), eq-eqb _ 4 (m .before .before .if2 .left))
+    (handed (λ (r : Mat2Answer). r .code) (λ (r : Mat2Answer). r .matrix .«data») (c .before .before .put .ensures) e)
+
+pub move2-spec : {M : Type 1} → statement M
+move2-spec =
+    tie.close
+    (tie.spec
+    returns
+    returns-2
+    mat2-of-requires
+    moved2-requires
+    slice-aggregate-put
+    put-requires
+    same-length
+    returns-3)

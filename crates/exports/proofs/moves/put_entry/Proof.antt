@@ -1,0 +1,53 @@
+-- A store at the only place leaves the number alone. Assumes nothing.
+use mathlib.Core.Path.{_≡_, refl}
+use mathlib.Core.List.{List, [], _∷_}
+use native.Mathlib.Omega.{arith}
+use borrow.Author.Needs.{needs}
+use lib.ListN.{length, set}
+use lib.Ieee.{Float}
+use Rattle.exports.proofs.moves.put_entry.Statement.{statement}
+use Rattle.exports.proofs.moves.put_entry.Tie as tie
+
+only : (out : List Float) (x : Float) → length out ≡ 1 → set out 0 x ≡ x ∷ []
+only [] x e = absurd (omega arith)
+only (y ∷ []) x e = refl
+only (y ∷ z ∷ ys) x e = absurd (omega arith)
+
+enum-known-x : tie.Need-enum-known-x
+enum-known-x c = search needs
+
+slice-write-out : tie.Need-slice-write-out
+slice-write-out c = search needs
+
+enum-told : tie.Need-enum-told
+enum-told c = search needs
+
+slice-write-out-2 : tie.Need-slice-write-out-2
+slice-write-out-2 c = search needs
+
+same-length : tie.Need-same-length
+same-length c = search needs
+
+returns : tie.Need-returns
+returns c =
+    rw (c .before .x .given .1) (refl, only (c .before .before .before .args .out .now) _ (c .before .before .before .pre))
+
+same-length-2 : tie.Need-same-length-2
+same-length-2 c = search needs
+
+returns-2 : tie.Need-returns-2
+returns-2 c =
+    rw (c .enum-told .given .1) (refl, only (c .before .before .args .out .now) _ (c .before .before .pre))
+
+pub put-entry-spec : {M : Type 1} → statement M
+put-entry-spec =
+    tie.close
+    (tie.spec
+    enum-known-x
+    slice-write-out
+    enum-told
+    slice-write-out-2
+    same-length
+    returns
+    same-length-2
+    returns-2)

@@ -1,0 +1,46 @@
+-- Both lengths passed, out takes the number that is read. Assumes nothing.
+use mathlib.Core.Path.{refl}
+use borrow.Author.Needs.{needs}
+use borrow.Author.Tests.{eq-eqb, ne-eqb}
+use Rattle.exports.specs.Moves.{packedReadOf}
+use Rattle.exports.proofs.moves.zanikory_sym2_index.Statement.{statement}
+use Rattle.exports.proofs.moves.zanikory_sym2_index.Tie as tie
+
+returns : tie.Need-returns
+unfolding packedReadOf
+returns c = rw (ne-eqb _ 1 (c .if1 .taken)) (refl, refl)
+
+returns-2 : tie.Need-returns-2
+unfolding packedReadOf
+returns-2 c = rw (eq-eqb _ 1 (c .before .if1 .left), ne-eqb _ 3 (c .if2 .taken)) (refl, refl)
+
+sym2-of-requires : tie.Need-sym2-of-requires
+sym2-of-requires c κs = search needs
+
+index-requires : tie.Need-index-requires
+index-requires c κs = search needs
+
+put-entry-requires : tie.Need-put-entry-requires
+put-entry-requires c κs = search needs
+
+same-length : tie.Need-same-length
+same-length c = search needs
+
+returns-3 : tie.Need-returns-3
+unfolding packedReadOf
+returns-3 c =
+    let m = c .before .before .before .before in
+    rw (eq-eqb _ 1 (m .before .before .before .if1 .left), eq-eqb _ 3 (m .before .before .if2 .left))
+    (rw (rw (m .sym2-of .ensures) at (c .before .before .before .index .ensures)) at (c .before .before .put-entry .ensures))
+
+pub zanikory-sym2-index-spec : {M : Type 1} → statement M
+zanikory-sym2-index-spec =
+    tie.close
+    (tie.spec
+    returns
+    returns-2
+    sym2-of-requires
+    index-requires
+    put-entry-requires
+    same-length
+    returns-3)

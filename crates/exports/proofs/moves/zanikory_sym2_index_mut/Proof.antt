@@ -1,0 +1,70 @@
+-- Both lengths passed, out takes the copy that was written. Assumes nothing.
+use mathlib.Core.Path.{_≡_, refl}
+use native.Mathlib.Omega.{arith}
+use borrow.Author.Needs.{needs}
+use borrow.Author.Tests.{eq-eqb, ne-eqb}
+use lib.ListN.{length}
+use Rattle.matrix.specs.Places.{packedIndex, writeOf}
+use Rattle.matrix.specs.Symmetric.{sym2Answer}
+use Rattle.matrix.specs.declared.symmetric.Sym2Answer.{Sym2Answer}
+use Rattle.exports.specs.Moves.{packedWriteOf}
+use Rattle.exports.proofs.Handing.{handed}
+use Rattle.exports.proofs.moves.zanikory_sym2_index_mut.Statement.{statement}
+use Rattle.exports.proofs.moves.zanikory_sym2_index_mut.Tie as tie
+
+returns : tie.Need-returns
+unfolding packedWriteOf
+returns c = rw (ne-eqb _ 3 (c .if1 .taken)) (refl, refl)
+
+returns-2 : tie.Need-returns-2
+unfolding packedWriteOf
+returns-2 c = rw (eq-eqb _ 3 (c .before .if1 .left), ne-eqb _ 3 (c .if2 .taken)) (refl, refl)
+
+zeros-requires : tie.Need-zeros-requires
+zeros-requires c κs = search needs
+
+sym2-of-requires : tie.Need-sym2-of-requires
+sym2-of-requires c κs = search needs
+
+copy-from-requires : tie.Need-copy-from-requires
+copy-from-requires c κs = search needs
+
+index-mut-requires : tie.Need-index-mut-requires
+index-mut-requires c κs = search needs
+
+slice-aggregate-put : tie.Need-slice-aggregate-put
+slice-aggregate-put c = search needs
+
+put-requires : tie.Need-put-requires
+put-requires c κs =
+    let l : length (c .before .before .before .before .index-mut .result .matrix .«data») ≡ 3 = search needs in
+    omega arith
+
+same-length : tie.Need-same-length
+same-length c = search needs
+
+returns-3 : tie.Need-returns-3
+unfolding packedWriteOf
+returns-3 c =
+    let m = c .before .before .before .before .before .before .before in
+    let t = m .before .before .before .before in
+    let a = t .before .before .before .before .args in
+    let e : m .index-mut .result ≡ sym2Answer (writeOf 2 (a .row) (a .column) (packedIndex (a .row) (a .column)) (a .x) (a .a .now)) =
+    rw (m .before .copy-from .ensures, m .before .before .sym2-of .ensures) at (m .index-mut .ensures) in
+    rw (eq-eqb _ 3 (t .before .if1 .left), eq-eqb _ 3 (t .if2 .left))
+    (handed (λ (r : Sym2Answer). r .code) (λ (r : Sym2Answer). r .matrix .«data») (c .before .before .put .ensures) e)
+
+pub zanikory-sym2-index-mut-spec : {M : Type 1} → statement M
+zanikory-sym2-index-mut-spec =
+    tie.close
+    (tie.spec
+    returns
+    returns-2
+    zeros-requires
+    sym2-of-requires
+    copy-from-requires
+    index-mut-requires
+    slice-aggregate-put
+    put-requires
+    same-length
+    returns-3)

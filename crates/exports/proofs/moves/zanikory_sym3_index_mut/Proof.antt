@@ -1,0 +1,70 @@
+-- Both lengths passed, out takes the copy that was written. Assumes nothing.
+use mathlib.Core.Path.{_≡_, refl}
+use native.Mathlib.Omega.{arith}
+use borrow.Author.Needs.{needs}
+use borrow.Author.Tests.{eq-eqb, ne-eqb}
+use lib.ListN.{length}
+use Rattle.matrix.specs.Places.{packedIndex, writeOf}
+use Rattle.matrix.specs.Symmetric.{sym3Answer}
+use Rattle.matrix.specs.declared.symmetric.Sym3Answer.{Sym3Answer}
+use Rattle.exports.specs.Moves.{packedWriteOf}
+use Rattle.exports.proofs.Handing.{handed}
+use Rattle.exports.proofs.moves.zanikory_sym3_index_mut.Statement.{statement}
+use Rattle.exports.proofs.moves.zanikory_sym3_index_mut.Tie as tie
+
+returns : tie.Need-returns
+unfolding packedWriteOf
+returns c = rw (ne-eqb _ 6 (c .if1 .taken)) (refl, refl)
+
+returns-2 : tie.Need-returns-2
+unfolding packedWriteOf
+returns-2 c = rw (eq-eqb _ 6 (c .before .if1 .left), ne-eqb _ 6 (c .if2 .taken)) (refl, refl)
+
+zeros-requires : tie.Need-zeros-requires
+zeros-requires c κs = search needs
+
+sym3-of-requires : tie.Need-sym3-of-requires
+sym3-of-requires c κs = search needs
+
+copy-from-requires : tie.Need-copy-from-requires
+copy-from-requires c κs = search needs
+
+index-mut-requires : tie.Need-index-mut-requires
+index-mut-requires c κs = search needs
+
+slice-aggregate-put : tie.Need-slice-aggregate-put
+slice-aggregate-put c = search needs
+
+put-requires : tie.Need-put-requires
+put-requires c κs =
+    let l : length (c .before .before .before .before .index-mut .result .matrix .«data») ≡ 6 = search needs in
+    omega arith
+
+same-length : tie.Need-same-length
+same-length c = search needs
+
+returns-3 : tie.Need-returns-3
+unfolding packedWriteOf
+returns-3 c =
+    let m = c .before .before .before .before .before .before .before in
+    let t = m .before .before .before .before in
+    let a = t .before .before .before .before .args in
+    let e : m .index-mut .result ≡ sym3Answer (writeOf 3 (a .row) (a .column) (packedIndex (a .row) (a .column)) (a .x) (a .a .now)) =
+    rw (m .before .copy-from .ensures, m .before .before .sym3-of .ensures) at (m .index-mut .ensures) in
+    rw (eq-eqb _ 6 (t .before .if1 .left), eq-eqb _ 6 (t .if2 .left))
+    (handed (λ (r : Sym3Answer). r .code) (λ (r : Sym3Answer). r .matrix .«data») (c .before .before .put .ensures) e)
+
+pub zanikory-sym3-index-mut-spec : {M : Type 1} → statement M
+zanikory-sym3-index-mut-spec =
+    tie.close
+    (tie.spec
+    returns
+    returns-2
+    zeros-requires
+    sym3-of-requires
+    copy-from-requires
+    index-mut-requires
+    slice-aggregate-put
+    put-requires
+    same-length
+    returns-3)

@@ -1,0 +1,83 @@
+-- The invariant: up to the place reached stand the places before `at`, and then the numbers passed. Assumes nothing.
+use mathlib.Core.Path.{_≡_, refl, sym, ap, _∙_}
+use mathlib.Core.List.{List, [], _∷_, _++_, append-nil, append-assoc}
+use Prim.Native.Nat.{ℕ, suc, _+_, _-_, _≤_, _<_}
+use native.Mathlib.Nat.{add-zero}
+use native.Mathlib.Omega.{arith}
+use borrow.Author.Needs.{needs}
+use lib.ListN.{length, take, getD, set, length-set}
+use lib.Seq.{take-length, take-suc, take-suc-set}
+use lib.Ieee.{Float, nan}
+use Rattle.exports.proofs.slices.put_at.Statement.{statement}
+use Rattle.exports.proofs.slices.put_at.Tie as tie
+
+abbrev Inv-loop : tie.InvT-loop
+Inv-loop out₀ at numbers i₀ out i = (i ≤ length numbers) × (length out ≡ length out₀) × (take (at + i) out ≡ take at out₀ ++ take i numbers)
+
+abbrev μ-loop : tie.MeasureT-loop
+μ-loop out₀ at numbers i₀ out i = length numbers - i
+
+-- one number more
+next : (out₀ out numbers : List Float) (at i : ℕ) → at + i < length out → i < length numbers → take (at + i) out ≡ take at out₀ ++ take i numbers
+    → take (at + (i + 1)) (set out (at + i) (getD numbers i nan)) ≡ take at out₀ ++ take (i + 1) numbers
+next out₀ out numbers at i h k e =
+    let p : at + (i + 1) ≡ suc (at + i) = omega arith in
+    let q : i + 1 ≡ suc i = omega arith in
+    rw (p, q, take-suc-set out (at + i) (getD numbers i nan) h, e, take-suc numbers i nan k, append-assoc)
+
+loop-holds : tie.Need-loop-holds Inv-loop μ-loop
+loop-holds c = (omega arith, refl, rw (add-zero, append-nil))
+
+mul-out : tie.Need-mul-out Inv-loop μ-loop
+mul-out c = search needs
+
+shared-slice-read-out : tie.Need-shared-slice-read-out Inv-loop μ-loop
+shared-slice-read-out c = search needs
+
+add-out : tie.Need-add-out Inv-loop μ-loop
+add-out c = search needs
+
+mul-out-2 : tie.Need-mul-out-2 Inv-loop μ-loop
+mul-out-2 c = search needs
+
+slice-write-out : tie.Need-slice-write-out Inv-loop μ-loop
+slice-write-out c = search needs
+
+add-i : tie.Need-add-i Inv-loop μ-loop
+add-i c = search needs
+
+loop-less : tie.Need-loop-less Inv-loop μ-loop
+loop-less c = search needs
+
+loop-again : tie.Need-loop-again Inv-loop μ-loop
+loop-again c =
+    let a = c .before .before .before .args in
+    let l = c .before .before .loop in
+    (omega arith, simp length-set (search needs), next (a .out .now) (l .out) (a .numbers .now) (a .at) (l .i) (omega arith) (omega arith) (l .inv .2))
+
+same-length : tie.Need-same-length Inv-loop μ-loop
+same-length c = search needs
+
+returns : tie.Need-returns Inv-loop μ-loop
+returns c =
+    let n = c .before .before .args .numbers .now in
+    let e : c .before .loop .i ≡ length n = omega arith in
+    (rw (e, take-length n) at (c .before .loop .inv .2))
+
+pub put-at-spec : {M : Type 1} → statement M
+put-at-spec =
+    tie.close
+    (tie.spec
+    Inv-loop
+    μ-loop
+    loop-holds
+    mul-out
+    shared-slice-read-out
+    add-out
+    mul-out-2
+    slice-write-out
+    add-i
+    loop-less
+    loop-again
+    same-length
+    returns)

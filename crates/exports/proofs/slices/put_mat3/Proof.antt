@@ -1,0 +1,26 @@
+-- The type says how many numbers there are. Assumes nothing.
+use mathlib.Core.Path.{_≡_}
+use native.Mathlib.Omega.{arith}
+use borrow.Author.Needs.{needs}
+use lib.ListN.{length}
+use Rattle.exports.proofs.slices.put_mat3.Statement.{statement}
+use Rattle.exports.proofs.slices.put_mat3.Tie as tie
+
+slice-aggregate-put-at : tie.Need-slice-aggregate-put-at
+slice-aggregate-put-at c = search needs
+
+put-at-requires : tie.Need-put-at-requires
+put-at-requires c κs =
+    let l : length (c .before .before .before .before .args .m .«data») ≡ 9 = search needs in
+    omega arith
+
+same-length : tie.Need-same-length
+same-length c = search needs
+
+returns : tie.Need-returns
+returns c =
+    let l : length (c .before .before .before .before .before .before .before .args .m .«data») ≡ 9 = search needs in
+    (rw l at (c .before .before .put-at .ensures))
+
+pub put-mat3-spec : {M : Type 1} → statement M
+put-mat3-spec = tie.close (tie.spec slice-aggregate-put-at put-at-requires same-length returns)

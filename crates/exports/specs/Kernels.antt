@@ -1,0 +1,65 @@
+-- Products, Cholesky factors and solutions, eigenvalues and singular values, on slices. Definitions only.
+use mathlib.Core.List.{List, _++_}
+use Prim.Native.Nat.{ℕ, _*_}
+use lib.Ieee.{Float, Format}
+use Rattle.matrix.specs.Answer.{Answer}
+use Rattle.matrix.specs.Square.{mulOf}
+use Rattle.matrix.specs.Symmetric.{symMulOf}
+use Rattle.cholesky.specs.Factor.{FactorAnswer, factor2Of, factor3Of}
+use Rattle.cholesky.specs.Solve.{solve2Of, solve3Of}
+use Rattle.eigen.specs.Eigen3x3.{EigenAnswer, eigenOf}
+use Rattle.svd.specs.Svd3x3.{SvdAnswer, svdOf}
+use Rattle.svd.specs.declared.svd3x3.Svd3.{Svd3}
+use Rattle.exports.specs.Slices.{into, intoFirst, given, whenDone}
+
+-- ---- y = A x, with the numbers of the matrix in a
+
+unfoldable pub squareMulOf : Format → ℕ → List Float → List Float → List Float → Answer (List Float)
+squareMulOf f n a x y = into n y (given (n * n) a y (mulOf f n a x y))
+
+unfoldable pub packedMulOf : Format → List Float → List Float → List Float → Answer (List Float)
+packedMulOf f h x y = intoFirst 3 y (given 6 h y (symMulOf f h x y))
+
+-- ---- the factor that is handed back over the old factor l, whatever the code; and the solution by a factor
+
+abbrev pub held : FactorAnswer → Answer (List Float)
+held r = record { code = r .code; value = r .factor }
+
+unfoldable pub factor2Into : Format → List Float → List Float → List Float → Answer (List Float)
+factor2Into f l a out = into 3 out (given 3 l out (given 3 a out (held (factor2Of f l a))))
+
+unfoldable pub factor3Into : Format → List Float → List Float → List Float → Answer (List Float)
+factor3Into f l a out = into 6 out (given 6 l out (given 6 a out (held (factor3Of f l a))))
+
+unfoldable pub solve2Into : Format → List Float → List Float → List Float → Answer (List Float)
+solve2Into f l b x = intoFirst 2 x (given 3 l x (solve2Of f l b x))
+
+unfoldable pub solve3Into : Format → List Float → List Float → List Float → Answer (List Float)
+solve3Into f l b x = intoFirst 3 x (given 6 l x (solve3Of f l b x))
+
+-- ---- values, vectors and the worked matrix, with code 0
+
+abbrev pub eigenNumbers : EigenAnswer → List Float
+eigenNumbers r = (r .values ++ r .vectors) ++ r .worked
+
+unfoldable pub eigen3Into : Format → List Float → List Float → Answer (List Float)
+eigen3Into f a out = into 18 out (given 6 a out (whenDone (record { code = eigenOf f a .code; value = eigenNumbers (eigenOf f a) }) out))
+
+-- ---- values, U, V and the worked matrix, with code 0
+
+abbrev pub ofSvd3 : Svd3 → SvdAnswer
+ofSvd3 r = record {
+  code = r .code;
+  count = r .count;
+  settled = r .settled;
+  values = r .values;
+  u = r .u .«data»;
+  v = r .v .«data»;
+  worked = r .worked .«data»;
+}
+
+abbrev pub svdNumbers : SvdAnswer → List Float
+svdNumbers r = ((r .values ++ r .u) ++ r .v) ++ r .worked
+
+unfoldable pub svd3Into : Format → List Float → List Float → Answer (List Float)
+svd3Into f a out = into 30 out (given 9 a out (whenDone (record { code = svdOf f a .code; value = svdNumbers (svdOf f a) }) out))

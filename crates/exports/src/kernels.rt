@@ -1,0 +1,199 @@
+// Products, Cholesky factors and solutions, eigenvalues and singular values, on slices of doubles.
+use crate::slices::mat2_of;
+use crate::slices::mat3_of;
+use crate::slices::put;
+use crate::slices::put_mat3;
+use crate::slices::put_sym3;
+use crate::slices::put_three;
+use crate::slices::sym2_of;
+use crate::slices::sym3_of;
+use cholesky::cholesky2x2::cholesky_2x2_explicit_factor;
+use cholesky::cholesky2x2::cholesky_2x2_explicit_solve;
+use cholesky::cholesky3x3::cholesky_3x3_explicit_factor;
+use cholesky::cholesky3x3::cholesky_3x3_explicit_solve;
+use eigen::eigen3x3::Eigen3;
+use eigen::eigen3x3::eigen_jacobi;
+use matrix::codes::DONE;
+use matrix::codes::INPUT_LENGTH;
+use matrix::codes::OUTPUT_LENGTH;
+use svd::svd3x3::Svd3;
+use svd::svd3x3::svd;
+ghost use mathlib.Core.Path.{_≡_};
+ghost use lib.ListN.{length};
+ghost use lib.Ieee.{binary64};
+ghost use Rattle.matrix.specs.Answer.{Outcome};
+ghost use Rattle.eigen.specs.Eigen3x3.{ofEigen3};
+ghost use Rattle.exports.specs.Kernels.{squareMulOf, packedMulOf, factor2Into, factor3Into, solve2Into, solve3Into, eigenNumbers, eigen3Into, ofSvd3, svdNumbers, svd3Into};
+
+#[no_mangle]
+pub extern "C" fn zanikory_mat2_mul(a: &[f64], y: &mut [f64], x: &[f64]) -> u8
+    ensures { λ r. ⌜ Outcome (squareMulOf binary64 2 (now (a .entry)) (now (x .entry)) (now (y .entry))) r (now (y .exit)) ⌝ }
+{
+    if y.len() != 2 {
+        return OUTPUT_LENGTH;
+    }
+    if a.len() != 4 {
+        return INPUT_LENGTH;
+    }
+    mat2_of(a).mul(y, x)
+}
+
+#[no_mangle]
+pub extern "C" fn zanikory_mat3_mul(a: &[f64], y: &mut [f64], x: &[f64]) -> u8
+    ensures { λ r. ⌜ Outcome (squareMulOf binary64 3 (now (a .entry)) (now (x .entry)) (now (y .entry))) r (now (y .exit)) ⌝ }
+{
+    if y.len() != 3 {
+        return OUTPUT_LENGTH;
+    }
+    if a.len() != 9 {
+        return INPUT_LENGTH;
+    }
+    mat3_of(a).mul(y, x)
+}
+
+#[no_mangle]
+pub extern "C" fn zanikory_sym3_mul(h: &[f64], y: &mut [f64], x: &[f64]) -> u8
+    ensures { λ r. ⌜ Outcome (packedMulOf binary64 (now (h .entry)) (now (x .entry)) (now (y .entry))) r (now (y .exit)) ⌝ }
+{
+    if y.len() < 3 {
+        return OUTPUT_LENGTH;
+    }
+    if h.len() != 6 {
+        return INPUT_LENGTH;
+    }
+    sym3_of(h).mul(y, x)
+}
+
+// The old factor l is replaced as far as the kernel writes.
+#[no_mangle]
+pub extern "C" fn zanikory_cholesky_2x2_factor(l: &[f64], a: &[f64], out: &mut [f64]) -> u8
+    ensures { λ r. ⌜ Outcome (factor2Into binary64 (now (l .entry)) (now (a .entry)) (now (out .entry))) r (now (out .exit)) ⌝ }
+{
+    if out.len() != 3 {
+        return OUTPUT_LENGTH;
+    }
+    if l.len() != 3 {
+        return INPUT_LENGTH;
+    }
+    if a.len() != 3 {
+        return INPUT_LENGTH;
+    }
+    let r = cholesky_2x2_explicit_factor(sym2_of(l), sym2_of(a));
+    let m = r.factor;
+    let d = m.data;
+    put(out, &d);
+    r.code
+}
+
+// The old factor l is replaced as far as the kernel writes.
+#[no_mangle]
+pub extern "C" fn zanikory_cholesky_3x3_factor(l: &[f64], a: &[f64], out: &mut [f64]) -> u8
+    ensures { λ r. ⌜ Outcome (factor3Into binary64 (now (l .entry)) (now (a .entry)) (now (out .entry))) r (now (out .exit)) ⌝ }
+{
+    if out.len() != 6 {
+        return OUTPUT_LENGTH;
+    }
+    if l.len() != 6 {
+        return INPUT_LENGTH;
+    }
+    if a.len() != 6 {
+        return INPUT_LENGTH;
+    }
+    let r = cholesky_3x3_explicit_factor(sym3_of(l), sym3_of(a));
+    let m = r.factor;
+    let d = m.data;
+    put(out, &d);
+    r.code
+}
+
+#[no_mangle]
+pub extern "C" fn zanikory_cholesky_2x2_solve(l: &[f64], x: &mut [f64], b: &[f64]) -> u8
+    ensures { λ r. ⌜ Outcome (solve2Into binary64 (now (l .entry)) (now (b .entry)) (now (x .entry))) r (now (x .exit)) ⌝ }
+{
+    if x.len() < 2 {
+        return OUTPUT_LENGTH;
+    }
+    if l.len() != 3 {
+        return INPUT_LENGTH;
+    }
+    cholesky_2x2_explicit_solve(sym2_of(l), x, b)
+}
+
+#[no_mangle]
+pub extern "C" fn zanikory_cholesky_3x3_solve(l: &[f64], x: &mut [f64], b: &[f64]) -> u8
+    ensures { λ r. ⌜ Outcome (solve3Into binary64 (now (l .entry)) (now (b .entry)) (now (x .entry))) r (now (x .exit)) ⌝ }
+{
+    if x.len() < 3 {
+        return OUTPUT_LENGTH;
+    }
+    if l.len() != 6 {
+        return INPUT_LENGTH;
+    }
+    cholesky_3x3_explicit_solve(sym3_of(l), x, b)
+}
+
+// Values, vectors, worked matrix.
+fn put_eigen(out: &mut [f64], r: Eigen3)
+    requires { ⌜ length (now out) ≡ 18 ⌝ }
+    ensures { λ _. ⌜ now (out .exit) ≡ eigenNumbers (ofEigen3 r) ⌝ }
+{
+    let values = r.values;
+    let vectors = r.vectors;
+    let worked = r.worked;
+    put_three(out, 0, values);
+    put_mat3(out, 3, vectors);
+    put_sym3(out, 12, worked);
+}
+
+#[no_mangle]
+pub extern "C" fn zanikory_eigen_3x3(a: &[f64], out: &mut [f64]) -> u8
+    ensures { λ r. ⌜ Outcome (eigen3Into binary64 (now (a .entry)) (now (out .entry))) r (now (out .exit)) ⌝ }
+{
+    if out.len() != 18 {
+        return OUTPUT_LENGTH;
+    }
+    if a.len() != 6 {
+        return INPUT_LENGTH;
+    }
+    let r = eigen_jacobi(sym3_of(a));
+    let code = r.code;
+    if code != DONE {
+        return code;
+    }
+    put_eigen(out, r);
+    DONE
+}
+
+// Values, U, V, worked matrix.
+fn put_svd(out: &mut [f64], r: Svd3)
+    requires { ⌜ length (now out) ≡ 30 ⌝ }
+    ensures { λ _. ⌜ now (out .exit) ≡ svdNumbers (ofSvd3 r) ⌝ }
+{
+    let values = r.values;
+    let u = r.u;
+    let v = r.v;
+    let worked = r.worked;
+    put_three(out, 0, values);
+    put_mat3(out, 3, u);
+    put_mat3(out, 12, v);
+    put_mat3(out, 21, worked);
+}
+
+#[no_mangle]
+pub extern "C" fn zanikory_svd_3x3(a: &[f64], out: &mut [f64]) -> u8
+    ensures { λ r. ⌜ Outcome (svd3Into binary64 (now (a .entry)) (now (out .entry))) r (now (out .exit)) ⌝ }
+{
+    if out.len() != 30 {
+        return OUTPUT_LENGTH;
+    }
+    if a.len() != 9 {
+        return INPUT_LENGTH;
+    }
+    let r = svd(mat3_of(a));
+    let code = r.code;
+    if code != DONE {
+        return code;
+    }
+    put_svd(out, r);
+    DONE
+}

@@ -1,0 +1,7 @@
+/* Of the C library's header, what host/ and include/ use: the kit's compiler comes without headers. */
+#ifndef KIT_STDDEF_H
+#define KIT_STDDEF_H
+
+typedef __SIZE_TYPE__ size_t;
+
+#endif
