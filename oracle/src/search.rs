@@ -2,7 +2,7 @@
 //!
 //! Half of the matrices are new ones of all kinds, and half are the best so far with a place or two changed.
 
-use crate::eigen::{matrix, run, Run, MOST};
+use crate::eigen::{matrix, run, Run, LIMIT, MOST};
 use crate::numbers::{all_finite, beside, even, power_of_two, whole, with_sign};
 use crate::random::Random;
 
@@ -12,7 +12,7 @@ struct Goal {
     score: fn(&[f64; 6], &Run) -> Option<f64>,
 }
 
-const GOALS: [Goal; 5] = [
+const GOALS: [Goal; 6] = [
     Goal {
         name: "most rotations that settle, none on the diagonal larger than one beside it",
         score: |a, end| settled(end, beside_size(a) >= diagonal_size(a), end.count as f64),
@@ -32,6 +32,10 @@ const GOALS: [Goal; 5] = [
     Goal {
         name: "25 rotations that do not settle, of the smallest numbers",
         score: |a, end| (!end.settled).then_some(-size(a)),
+    },
+    Goal {
+        name: "25 rotations that leave a number nearest to 2^-44 from above",
+        score: |_, end| (!end.settled).then_some(-beside_size(&end.a.data)),
     },
 ];
 
@@ -102,27 +106,23 @@ pub fn eigen(count: u64, seed: u64) {
 
 fn show(a: [f64; 6]) {
     let end = run(a, |_, _| {});
-    let settled = if end.settled {
-        "settled"
+    let state = if end.settled {
+        String::from("settled")
     } else {
-        "not settled"
+        let over = beside_size(&end.a.data).to_bits() - LIMIT.to_bits();
+        format!("not settled, the largest left {over} numbers above 2^-44")
     };
-    let words: Vec<String> = a.iter().map(|x| format!("{:016X}", x.to_bits())).collect();
-    println!(
-        "    {} rotations, {settled}: {}",
-        end.count,
-        words.join(" ")
-    );
-    println!(
-        "    {:e} {:e} {:e} {:e} {:e} {:e}",
-        a[0], a[1], a[2], a[3], a[4], a[5]
-    );
+    println!("    {} rotations, {state}:", end.count);
+    let bits = a.map(|x| format!("{:016X}", x.to_bits()));
+    let decimal = a.map(|x| format!("{x:e}"));
+    println!("    {}", bits.join(" "));
+    println!("    {}", decimal.join(" "));
 }
 
-/// The matrix with one place or two changed, a little or much, or all made smaller.
+/// The matrix with one place or two changed, or all of them alike, by much or by little.
 fn changed(random: &mut Random, mut a: [f64; 6]) -> [f64; 6] {
+    let by = 1.0 + even(random) * power_of_two(whole(random, -52, -2));
     if random.below(8) == 0 {
-        let by = 1.0 - even(random).abs() / 4.0;
         return a.map(|x| by * x);
     }
     for _ in 0..1 + random.below(2) {
@@ -130,7 +130,7 @@ fn changed(random: &mut Random, mut a: [f64; 6]) -> [f64; 6] {
         let x = a[at];
         a[at] = match random.below(6) {
             0 => beside(random, x.abs(), 4).copysign(x),
-            1 => x * (1.0 + even(random) / 8.0),
+            1 => by * x,
             2 => x * power_of_two(whole(random, -2, 2)),
             3 => with_sign(random, x),
             4 => a[random.below(6) as usize],

@@ -9,7 +9,7 @@ use mathlib.Core.List.{List, [], _∷_}
 use Prim.Native.Nat.{ℕ, _*_}
 use native.Mathlib.Omega.{arith}
 use lib.ListN.{length}
-use lib.Ieee.{Float, Format, binary64}
+use lib.Ieee.{Float, Format, binary64, lt}
 use Rattle.float.specs.Choice.{pick}
 use Rattle.float.specs.Sign.{magnitudeOf, signBitOf, finite, allFinite}
 use Rattle.matrix.specs.Places.{at}
@@ -17,14 +17,16 @@ use Rattle.matrix.specs.Square.{negateOf}
 use Rattle.matrix.specs.declared.square.Mat2.{Mat2}
 use Rattle.matrix.specs.declared.square.Mat3.{Mat3}
 use Rattle.matrix.proofs.Moves.{negate-twice}
+use Rattle.eigen.specs.declared.pairs.Pair.{Pair}
+use Rattle.eigen.specs.declared.pairs.Pair.the-variants.{P12, P13, P23}
 use Rattle.svd.specs.Pairs.{a11, a22, a33}
-use Rattle.svd.specs.Order.{Factors, signedColumn, signed2, signed3, descended, orderOf, descended2, order2Of}
+use Rattle.svd.specs.Order.{Factors, signedColumn, signed2, signed3, below, descended, orderOf, descended2, order2Of}
 use Rattle.svd.specs.Svd3x3.{startOf, factorsOf, svdOf}
 use Rattle.svd.specs.Svd2x2.{turn2, sides2Of, factors2Of, svd2Of}
 use Rattle.svd.specs.declared.svd2x2.Svd2.{Svd2}
 use Rattle.svd.specs.declared.svd3x3.Svd3.{Svd3}
 use Rattle.svd.proofs.Answered.{lastOf, answered, answered2}
-use Rattle.svd.proofs.Ordered.Moves.{Moved, each-before, sorted2-moves, sorted3-moves, sorted2-length}
+use Rattle.svd.proofs.Ordered.Moves.{Moved, after, each-before, swapped, moves-if, both-of-2, first-of-3, outer-of-3, last-of-3}
 use Rattle.svd.proofs.Ordered.Falling.{Descending, below2, below3, sorted2-descends, sorted3-descends}
 use Rattle.svd.proofs.Ordered.Finite.{at-finite, magnitude-finite, magnitude-unsigned, work-nine}
 use Rattle.svd.proofs.svd2x2.svd.Reads as svd2x2-svd
@@ -48,32 +50,43 @@ signedOf a b c u v = record { values = magnitudeOf a ∷ magnitudeOf b ∷ magni
 abbrev pub signed2Of : Float → Float → List Float → List Float → Factors
 signed2Of a b u v = record { values = magnitudeOf a ∷ magnitudeOf b ∷ []; u = signed2 a b u; v = v }
 
+descended-moves : (p : Pair) (w : Factors) → Moved 3 w (descended p w)
+unfolding descended
+descended-moves P12 w = moves-if first-of-3 w (below P12 (w .values))
+descended-moves P13 w = moves-if outer-of-3 w (below P13 (w .values))
+descended-moves P23 w = moves-if last-of-3 w (below P23 (w .values))
+
 pub same-permutation : (a b c : Float) (u v : List Float) → Moved 3 (signedOf a b c u v) (orderOf a b c u v)
-unfolding orderOf descended
-same-permutation a b c u v = sorted3-moves (signedOf a b c u v)
+unfolding orderOf
+same-permutation a b c u v = after (after (descended-moves P12 (signedOf a b c u v)) (descended-moves P13 _)) (descended-moves P23 _)
 
 pub same-permutation2 : (a b : Float) (u v : List Float) → Moved 2 (signed2Of a b u v) (order2Of a b u v)
 unfolding order2Of descended2
-same-permutation2 a b u v = sorted2-moves (signed2Of a b u v)
+same-permutation2 a b u v = moves-if both-of-2 (signed2Of a b u v) (lt (magnitudeOf a) (magnitudeOf b))
 
 -- ---- descending values
 
 pub descending : (f : Format) (a b c : Float) (u v : List Float) → finite a ≡ true → finite b ≡ true → finite c ≡ true → Descending f 3 (orderOf a b c u v .values)
 unfolding orderOf descended
 descending f a b c u v p q r =
-    sorted3-descends f (signedOf a b c u v) (record {
+    sorted3-descends f (signedOf a b c u v) (same-permutation a b c u v) (record {
       are-finite = below3 (λ (i : ℕ). finite (at (signedOf a b c u v .values) i) ≡ true) (magnitude-finite a p) (magnitude-finite b q) (magnitude-finite c r);
       unsigned = below3 (λ (i : ℕ). signBitOf (at (signedOf a b c u v .values) i) ≡ false) (magnitude-unsigned a) (magnitude-unsigned b) (magnitude-unsigned c);
     })
 
--- both values are finite exactly where they were before the order
+sorted2-length : (w : Factors) → length (w .values) ≡ 2 → (t : Bool) → length (pick t (swapped 2 0 1 w) w .values) ≡ 2
+sorted2-length w e true = refl
+sorted2-length w e false = e
+
+-- both values are finite where they are so in order
 pub descending2 : (f : Format) (a b : Float) (u v : List Float) → allFinite (order2Of a b u v .values) ≡ true → Descending f 2 (order2Of a b u v .values)
 unfolding order2Of descended2
 descending2 f a b u v e =
     let x = signed2Of a b u v in
-    let l = sorted2-length x refl in
-    sorted2-descends f x (record {
-      are-finite = each-before (sorted2-moves x) (λ (y : Float). finite y ≡ true) (λ c h. at-finite _ e c (omega arith));
+    let m = same-permutation2 a b u v in
+    let l = sorted2-length x refl (lt (magnitudeOf a) (magnitudeOf b)) in
+    sorted2-descends f x m (record {
+      are-finite = each-before m (λ (y : Float). finite y ≡ true) (λ c h. at-finite _ e c (omega arith));
       unsigned = below2 (λ (i : ℕ). signBitOf (at (x .values) i) ≡ false) (magnitude-unsigned a) (magnitude-unsigned b);
     })
 

@@ -4,14 +4,14 @@ use mathlib.Core.Bool.{true, false}
 use mathlib.Core.List.{List}
 use Prim.Native.Nat.{ℕ, zero, suc, _≤_, _<_}
 use native.Mathlib.Omega.{arith}
-use lib.Ieee.{Float, Format, le}
+use lib.Ieee.{Float, Format, lt, le}
 use Rattle.float.specs.Constants.{zeroF}
 use Rattle.float.specs.Sign.{signBitOf, finite}
 use Rattle.float.proofs.Keys.{Within, keyed}
 use Rattle.matrix.specs.Places.{at}
 use Rattle.svd.specs.Order.{Factors}
-use Rattle.svd.proofs.Ordered.Moves.{Moved, each, sortedAt, sort-moves, both-of-2, first-of-3, outer-of-3, last-of-3, sorted2, sorted3, sorted2-moves, sorted3-moves}
-use Rattle.svd.proofs.Ordered.Keys.{le-key, zero-least, keyAt, Placed, sort-places, sort-keeps}
+use Rattle.svd.proofs.Ordered.Moves.{Moved, each, moves-if, both-of-2, first-of-3, outer-of-3, last-of-3}
+use Rattle.svd.proofs.Ordered.Keys.{le-key, zero-least, sortedAt, keyAt, Placed, sort-places, sort-keeps}
 
 -- compared as numbers; no zero among them is -0
 pub record Descending (f : Format) (n : ℕ) (x : List Float) : Type 0 where
@@ -34,6 +34,14 @@ below2 P p q (suc (suc c)) h = absurd (omega arith)
 pub below3 : (P : ℕ → Type 0) → P 0 → P 1 → P 2 → (c : ℕ) → c < 3 → P c
 below3 P p q r zero h = p
 below3 P p q r (suc c) h = below2 (λ (c : ℕ). P (suc c)) q r c (omega arith)
+
+-- ---- two values sorted, and three
+
+abbrev pub sorted2 : Factors → Factors
+sorted2 w = sortedAt 2 0 1 w
+
+abbrev pub sorted3 : Factors → Factors
+sorted3 w = sortedAt 3 1 2 (sortedAt 3 0 2 (sortedAt 3 0 1 w))
 
 -- ---- by keys that descend
 
@@ -65,21 +73,21 @@ module _ (L K : ℕ) where
   sorted3-falls w k =
       let x = sortedAt 3 0 1 w in
       let y = sortedAt 3 0 2 x in
-      let i = each (sort-moves first-of-3 w) (Within L K) k in
-      let j = each (sort-moves outer-of-3 x) (Within L K) i in
+      let i = each (moves-if first-of-3 w (lt (at (w .values) 0) (at (w .values) 1))) (Within L K) k in
+      let j = each (moves-if outer-of-3 x (lt (at (x .values) 0) (at (x .values) 2))) (Within L K) i in
       three-fall (sort-places L K first-of-3 w k) (sort-places L K outer-of-3 x i) (sort-keeps L K outer-of-3 x 1 (omega arith) refl) (sort-places L K last-of-3 y j)
       (sort-keeps L K last-of-3 y 0 (omega arith) refl)
 
--- ---- two values sorted, and three
+-- ---- where they are moved by a permutation
 
-pub sorted2-descends : (f : Format) (w : Factors) → Magnitudes 2 (w .values) → Descending f 2 (sorted2 w .values)
-sorted2-descends f w h =
+pub sorted2-descends : (f : Format) (w : Factors) → Moved 2 w (sorted2 w) → Magnitudes 2 (w .values) → Descending f 2 (sorted2 w .values)
+sorted2-descends f w m h =
     let g = keyed (at (w .values) 0) (at (w .values) 1) (at (w .values) 1) (h .are-finite 0 (omega arith)) (h .are-finite 1 (omega arith)) (h .are-finite 1 (omega arith)) in
     let k = below2 (λ (c : ℕ). Within (g .L) (g .K) (at (w .values) c)) (g .one) (g .two) in
-    by-keys (g .L) (g .K) f 2 (sorted2-moves w) h k (two-fall (g .L) (g .K) (sort-places (g .L) (g .K) both-of-2 w k))
+    by-keys (g .L) (g .K) f 2 m h k (two-fall (g .L) (g .K) (sort-places (g .L) (g .K) both-of-2 w k))
 
-pub sorted3-descends : (f : Format) (w : Factors) → Magnitudes 3 (w .values) → Descending f 3 (sorted3 w .values)
-sorted3-descends f w h =
+pub sorted3-descends : (f : Format) (w : Factors) → Moved 3 w (sorted3 w) → Magnitudes 3 (w .values) → Descending f 3 (sorted3 w .values)
+sorted3-descends f w m h =
     let g = keyed (at (w .values) 0) (at (w .values) 1) (at (w .values) 2) (h .are-finite 0 (omega arith)) (h .are-finite 1 (omega arith)) (h .are-finite 2 (omega arith)) in
     let k = below3 (λ (c : ℕ). Within (g .L) (g .K) (at (w .values) c)) (g .one) (g .two) (g .three) in
-    by-keys (g .L) (g .K) f 3 (sorted3-moves w) h k (sorted3-falls (g .L) (g .K) w k)
+    by-keys (g .L) (g .K) f 3 m h k (sorted3-falls (g .L) (g .K) w k)

@@ -15,7 +15,7 @@ use Rattle.matrix.specs.Places.{at}
 use Rattle.matrix.specs.Square.{exchanged}
 use Rattle.matrix.proofs.Tables.{at-tabulate}
 use Rattle.svd.specs.Order.{Factors}
-use Rattle.svd.proofs.Ordered.Moves.{Two, swapped, sortedAt}
+use Rattle.svd.proofs.Ordered.Moves.{Two, swapped}
 
 -- ---- order by keys
 
@@ -48,7 +48,10 @@ zero-least f (fin false m e) h n =
     let g = keyed z x x refl refl refl in
     rw (zero-is f) (le-key (g .L) (g .K) z x (g .one) (g .two) (omega arith))
 
--- ---- the keys that an exchange leaves
+-- ---- the keys that an exchange leaves, made where the value at i is below the one at j
+
+abbrev pub sortedAt : ℕ → ℕ → ℕ → Factors → Factors
+sortedAt n i j w = pick (lt (at (w .values) i) (at (w .values) j)) (swapped n i j w) w
 
 module _ (L K : ℕ) where
   abbrev pub keyAt : Factors → ℕ → ℕ

@@ -4,8 +4,7 @@ use mathlib.Core.Bool.{Bool, true, false}
 use Prim.Native.Nat.{ℕ, _<_}
 use native.Mathlib.Omega.{arith}
 use lib.Dec.{eqb}
-use lib.ListN.{length}
-use lib.Ieee.{Float, lt}
+use lib.Ieee.{Float}
 use Rattle.float.specs.Choice.{pick}
 use Rattle.matrix.specs.Places.{at, tabulate}
 use Rattle.matrix.specs.Square.{entryOf, exchanged, exchangeOf}
@@ -30,7 +29,7 @@ pub record Moved (n : ℕ) (x y : Factors) : Type 0 where
   pub u : (r c : ℕ) → r < n → c < n → entryOf n (y .u) r c ≡ entryOf n (x .u) r (by .to c)
   pub v : (r c : ℕ) → r < n → c < n → entryOf n (y .v) r c ≡ entryOf n (x .v) r (by .to c)
 
-pub stays : (n : ℕ) (x : Factors) → Moved n x x
+stays : (n : ℕ) (x : Factors) → Moved n x x
 stays n x = record {
   by = record { to = (λ c. c); back = (λ c. c); to-below = (λ c h. h); back-below = (λ c h. h); to-back = (λ c. refl); back-to = (λ c. refl) };
   values = (λ c h. refl);
@@ -68,13 +67,10 @@ module _ {n : ℕ} {x y : Factors} (m : Moved n x y) (P : Float → Type 0) wher
       let k = m .by .back-below c l in
       subst P (m .values b k ∙ ap (at (x .values)) (m .by .to-back c)) (h b k)
 
--- ---- an exchange of the places i and j, made where the value at i is below the one at j
+-- ---- an exchange of the places i and j, made or not
 
 abbrev pub swapped : ℕ → ℕ → ℕ → Factors → Factors
 swapped n i j w = record { values = tabulate n (λ (c : ℕ). at (w .values) (exchanged i j c)); u = exchangeOf n i j (w .u); v = exchangeOf n i j (w .v) }
-
-abbrev pub sortedAt : ℕ → ℕ → ℕ → Factors → Factors
-sortedAt n i j w = pick (lt (at (w .values) i) (at (w .values) j)) (swapped n i j w) w
 
 -- two places below n, of which an exchange puts each where the other is
 pub record Two (n i j : ℕ) : Type 0 where
@@ -89,31 +85,24 @@ one-of i j c p q r false true = p
 one-of i j c p q r false false = r
 
 module _ {n i j : ℕ} (two : Two n i j) (w : Factors) where
-  exchange-moves : Moved n w (swapped n i j w)
-  exchange-moves =
-      let below : (c : ℕ) → c < n → exchanged i j c < n = (λ c h. one-of i j c (two .first) (two .second) h (eqb c i) (eqb c j)) in
-      record {
-        by = record {
-          to = exchanged i j;
-          back = exchanged i j;
-          to-below = below;
-          back-below = below;
-          to-back = exchanged-twice i j;
-          back-to = exchanged-twice i j;
-        };
-        values = at-tabulate n (λ (c : ℕ). at (w .values) (exchanged i j c));
-        u = entry-of n (λ (r c : ℕ). entryOf n (w .u) r (exchanged i j c));
-        v = entry-of n (λ (r c : ℕ). entryOf n (w .v) r (exchanged i j c));
-      }
+  exchange-below : (c : ℕ) → c < n → exchanged i j c < n
+  exchange-below c h = one-of i j c (two .first) (two .second) h (eqb c i) (eqb c j)
 
-  pub sort-moves : Moved n w (sortedAt n i j w)
-  sort-moves = go (lt (at (w .values) i) (at (w .values) j))
-    where
-      go : (t : Bool) → Moved n w (pick t (swapped n i j w) w)
-      go true = exchange-moves
-      go false = stays n w
-
--- ---- two values sorted, and three
+  pub moves-if : (t : Bool) → Moved n w (pick t (swapped n i j w) w)
+  moves-if true = record {
+    by = record {
+      to = exchanged i j;
+      back = exchanged i j;
+      to-below = exchange-below;
+      back-below = exchange-below;
+      to-back = exchanged-twice i j;
+      back-to = exchanged-twice i j;
+    };
+    values = at-tabulate n (λ (c : ℕ). at (w .values) (exchanged i j c));
+    u = entry-of n (λ (r c : ℕ). entryOf n (w .u) r (exchanged i j c));
+    v = entry-of n (λ (r c : ℕ). entryOf n (w .v) r (exchanged i j c));
+  }
+  moves-if false = stays n w
 
 pub both-of-2 : Two 2 0 1
 both-of-2 = record { first = omega arith; second = omega arith; from-second = refl; from-first = refl }
@@ -126,25 +115,3 @@ outer-of-3 = record { first = omega arith; second = omega arith; from-second = r
 
 pub last-of-3 : Two 3 1 2
 last-of-3 = record { first = omega arith; second = omega arith; from-second = refl; from-first = refl }
-
-abbrev pub sorted2 : Factors → Factors
-sorted2 w = sortedAt 2 0 1 w
-
-abbrev pub sorted3 : Factors → Factors
-sorted3 w = sortedAt 3 1 2 (sortedAt 3 0 2 (sortedAt 3 0 1 w))
-
-pub sorted2-moves : (w : Factors) → Moved 2 w (sorted2 w)
-sorted2-moves w = sort-moves both-of-2 w
-
-pub sorted3-moves : (w : Factors) → Moved 3 w (sorted3 w)
-sorted3-moves w =
-    let x = sortedAt 3 0 1 w in
-    let y = sortedAt 3 0 2 x in
-    after (after (sort-moves first-of-3 w) (sort-moves outer-of-3 x)) (sort-moves last-of-3 y)
-
-pub sorted2-length : (w : Factors) → length (w .values) ≡ 2 → length (sorted2 w .values) ≡ 2
-sorted2-length w e = go (lt (at (w .values) 0) (at (w .values) 1))
-  where
-    go : (t : Bool) → length (pick t (swapped 2 0 1 w) w .values) ≡ 2
-    go true = refl
-    go false = e
