@@ -31,6 +31,7 @@ fn subnormal(words: &mut Words) -> f64 {
 }
 
 /// Any multiple of 2^-52 from -1 on and below 1, each as likely as any other.
+#[cfg(clarabel)]
 fn of_ordinary_size(words: &mut Words) -> f64 {
     words.below(1 << 53) as f64 / (1u64 << 52) as f64 - 1.0
 }
@@ -49,6 +50,7 @@ pub fn half_subnormals(count: usize) -> Vec<f64> {
         .collect()
 }
 
+#[cfg(clarabel)]
 pub fn ordinary(count: usize) -> Vec<f64> {
     let mut words = Words(3);
     (0..count).map(|_| of_ordinary_size(&mut words)).collect()

@@ -213,28 +213,17 @@ branches!(pub Eigen {
 /// The number before 2^-44.
 const BELOW_LIMIT: f64 = f64::from_bits(LIMIT.to_bits() - 1);
 
-/// The first matrices: no rotation, one, none just below the limit, and one; 16 of numbers that are not nearly isotropic; then 13,
-/// 24, and 25 that settle, and 25 that do not.
-const LISTED: [[f64; 6]; 10] = [
+/// The first matrices: no rotation, one, none just below the limit, and one; then 13, 24, and 25 that settle, and 25 that do not.
+const LISTED: [[f64; 6]; 9] = [
     [3.0, 0.0, 1.0, 0.0, 0.0, 2.0],
     [1.0, LIMIT, 1.0, 0.0, 0.0, 1.0],
     [1.0, BELOW_LIMIT, 1.0, 0.0, 0.0, 1.0],
     [-2.0, -1.0, -2.0, 0.0, 0.0, -5.0],
-    LONG,
     isotropic(16, 5, 40),
     isotropic(22, 1, 32),
     isotropic(22, 5, 34),
     isotropic(22, 3, 33),
     isotropic(30, 1, 24),
-];
-
-const LONG: [f64; 6] = [
-    f64::from_bits(0x742C_7374_727A_6F3E),
-    f64::from_bits(0x7483_307F_C211_5328),
-    f64::from_bits(0xF4A3_BC66_9F64_95F1),
-    f64::from_bits(0x7572_9878_E364_0C95),
-    f64::from_bits(0x756C_6467_A6B9_1114),
-    f64::from_bits(0xF4A0_D5AB_27B5_F23F),
 ];
 
 /// 2^k on the diagonal, m * 2^-j in two places beside it, and 0 in the third.
@@ -243,9 +232,58 @@ const fn isotropic(k: u32, m: u64, j: u32) -> [f64; 6] {
     [d, beside, d, beside, 0.0, d]
 }
 
+/// What a search found: 16 rotations of numbers as large beside the diagonal as on it; of the smallest numbers 13, 25 that settle,
+/// and 25 that do not; and 25 that leave a number just above the limit.
+const FOUND: [[u64; 6]; 5] = [
+    [
+        0x742C_7374_727A_6F3E,
+        0x7483_307F_C211_5328,
+        0xF4A3_BC66_9F64_95F1,
+        0x7572_9878_E364_0C95,
+        0x756C_6467_A6B9_1114,
+        0xF4A0_D5AB_27B5_F23F,
+    ],
+    [
+        0x40D0_0000_0000_0001,
+        0x3D87_288B_2884_C29F,
+        0x40D0_0000_0000_0001,
+        0x3D87_263A_58B4_A625,
+        0x8000_0000_0000_0002,
+        0x40D0_0000_0000_0001,
+    ],
+    [
+        0x4130_0000_0000_0001,
+        0x3DEC_39AD_32EA_3D54,
+        0x4130_0000_0000_0001,
+        0x3DEC_39AD_32EA_3D54,
+        0x8000_0000_0000_0001,
+        0x4130_0000_0000_0001,
+    ],
+    [
+        0x413F_FFFF_FFFF_FFFF,
+        0xBDF7_6329_5455_EAC4,
+        0x4140_0000_0000_0000,
+        0xBAA4_212C_6CFB_CD66,
+        0xBDF7_5948_14B0_A115,
+        0x4140_0000_0000_0000,
+    ],
+    [
+        0x415E_8CF7_9A39_947A,
+        0x3DF6_A09E_667F_275B,
+        0x415E_8CF7_9A39_947B,
+        0xBE0F_4DE5_45C0_27A1,
+        0x3E06_A09E_667F_3195,
+        0x415E_8CF7_9A39_947B,
+    ],
+];
+
 fn input(random: &mut Random, number: u64, words: &mut [u64], hits: &mut Hits) {
-    if let Some(listed) = LISTED.get(number as usize) {
+    let number = number as usize;
+    if let Some(listed) = LISTED.get(number) {
         return put(words, listed);
+    }
+    if let Some(found) = FOUND.get(number - LISTED.len()) {
+        return words.copy_from_slice(found);
     }
     let (kind, matrix) = matrix(random);
     hits.hit(kind as usize);

@@ -46,7 +46,10 @@ pub const SUBJECTS: &[Subject] = &[
         words_in: 2,
         words_out: 1,
         branches: Hypot::NAMES,
-        input: |random, _, words, _| any_words(random, words),
+        input: |random, _, words, _| match random.below(16) {
+            0 => put(words, &[0; 2].map(|_| about(random, 1023))),
+            _ => any_words(random, words),
+        },
         answer: hypot,
     },
     Subject {
@@ -564,12 +567,13 @@ fn matrix2(random: &mut Random) -> [f64; 4] {
             0 => whole(random, -2, 2) as f64,
             _ => zero(random),
         }),
-        5 => a.map(|_| {
-            let e = whole(random, 1018, 1023);
-            match random.below(4) {
-                0 => zero(random),
-                _ => about(random, e),
+        5 => a.map(|_| match random.below(6) {
+            0 => zero(random),
+            1 | 2 => {
+                let e = whole(random, 1018, 1022);
+                about(random, e)
             }
+            _ => about(random, 1023),
         }),
         6 => {
             // of rank one

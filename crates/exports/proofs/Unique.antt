@@ -1,5 +1,5 @@
 -- Any two answers within the promise of a C entry are equal, and so is what they leave in a lent slice. Assumes nothing.
-use mathlib.Core.Path.{_≡_, sym, _∙_}
+use mathlib.Core.Path.{sym, _∙_}
 use Prim.Native.Nat.{ℕ}
 use lib.Ieee.{Float}
 use contract.Lifetimes.{Lfts}

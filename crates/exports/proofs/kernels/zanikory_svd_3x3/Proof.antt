@@ -1,5 +1,5 @@
 -- Both lengths passed, out takes the numbers of the answer, if there is one. Assumes nothing.
-use mathlib.Core.Path.{_≡_, refl, sym, ap, _∙_}
+use mathlib.Core.Path.{refl, sym, ap, _∙_}
 use borrow.Author.Needs.{needs}
 use borrow.Author.Tests.{eq-eqb, ne-eqb}
 use Rattle.svd.specs.declared.svd3x3.Svd3.{Svd3}

@@ -1,5 +1,5 @@
 -- From the first place on, to the last. Assumes nothing.
-use mathlib.Core.Path.{_≡_, sym, _∙_}
+use mathlib.Core.Path.{sym, _∙_}
 use Prim.Native.Nat.{_+_}
 use lib.ListN.{length}
 use lib.Seq.{take-all}

@@ -1,0 +1,123 @@
+-- Every answer: its size, its code in byte 5, zeros from the mark on where the code is not 0, and 5 only by the record's own test. Assumes nothing.
+use mathlib.Core.Path.{_≡_, refl, sym, ap, _∙_, subst}
+use mathlib.Core.Logic.{_⊎_, inl, inr, ⊎-elim}
+use mathlib.Core.Bool.{Bool, true, false, not, _&&_}
+use mathlib.Core.List.{List, _∷_}
+use Prim.Native.Nat.{ℕ, zero, suc, _+_, _*_, _≤_}
+use native.Mathlib.Nat.{mul-zero, mul-suc}
+use native.Mathlib.Omega.{arith}
+use borrow.Author.Tests.{eq-eqb, ne-eqb}
+use lib.Dec.{T, eqb}
+use lib.ListN.{length, getD, take, drop, replicate, length-append, length-take, length-drop, replicate-append-replicate}
+use lib.Seq.{length-take-le, getD-append-add, drop-append-add}
+use lib.Ieee.{Format}
+use Rattle.float.specs.Sign.{allFinite}
+use Rattle.kinds.specs.Slots.{nineUsed, threeUsed}
+use Rattle.kinds.specs.Work.{KindAnswer, refusedKind, workOf}
+use Rattle.record.specs.Layout.{numberBytes, eventBytes, nineAt, threeAt, placeOf, requestSize, codeAt, answerSize}
+use Rattle.record.specs.Bytes.{numberAt, numbersFrom}
+use Rattle.record.specs.Request.{kindOf, formOf, usedFinite, judgedOf}
+use Rattle.record.specs.Answer.{recordOf, Step, stepOf}
+use Rattle.record.specs.Stream.{requestOf, answersOf}
+use Rattle.record.proofs.Choice.{chosen, by-eqb}
+use Rattle.record.proofs.Parts.{first-tabulate}
+use Rattle.record.proofs.Numbers.{numbers-length, zeros-bytes}
+use Rattle.record.proofs.Used.{nine-most, three-most}
+use Rattle.record.proofs.Works.{Sized, work-sized, Clear, work-clear, work-five}
+
+-- ---- a request of the right size
+
+judged-sized : (f : Format) (s : List ℕ) → Sized (judgedOf f s)
+unfolding judgedOf
+judged-sized f s =
+    chosen Sized (eqb (formOf f s) 0) _ _
+    (chosen Sized (usedFinite f (kindOf s) s) _ _ (work-sized f (kindOf s) (numbersFrom f 9 nineAt s) (numbersFrom f 3 (threeAt f) s)) (refl, refl, refl))
+    (refl, refl, refl)
+
+judged-clear : (f : Format) (s : List ℕ) → Clear f (judgedOf f s)
+unfolding judgedOf
+judged-clear f s =
+    chosen (Clear f) (eqb (formOf f s) 0) _ _
+    (chosen (Clear f) (usedFinite f (kindOf s) s) _ _ (work-clear f (kindOf s) (numbersFrom f 9 nineAt s) (numbersFrom f 3 (threeAt f) s)) (λ _. refl))
+    (λ _. refl)
+
+event-length : (f : Format) (s : List ℕ) → length s ≡ requestSize f → length (take eventBytes s) ≡ 4
+event-length f s h = length-take-le 4 s (omega arith)
+
+-- every answer is a record over one event's four bytes
+each-record : (P : Step → Type 0) (f : Format) (s a : List ℕ) → length a ≡ answerSize f
+    → ((event : List ℕ) (kind : ℕ) (w : KindAnswer) → length event ≡ 4 → Sized w → Clear f w → P (record { code = w .code; answer = recordOf f event kind w }))
+    → P (stepOf f s a)
+unfolding stepOf
+each-record P f s a h k =
+    rw (eq-eqb (length a) (answerSize f) h) (by-eqb P (length s) (requestSize f) _ _
+    (λ e. k (take eventBytes s) (kindOf s) (judgedOf f s) (event-length f s e) (judged-sized f s) (judged-clear f s))
+    (λ _. k (replicate eventBytes 0) 0 (refusedKind f 1 0) refl (refl, refl, refl) (λ _. refl)))
+
+-- ---- the size
+
+record-size : (f : Format) (event : List ℕ) (kind : ℕ) (w : KindAnswer) → length event ≡ 4 → Sized w → length (recordOf f event kind w) ≡ answerSize f
+unfolding recordOf
+record-size f event kind w h n = simp (length-append, numbers-length, h, n .0, n .1, n .2) (omega arith)
+
+pub answer-size : (f : Format) (s a : List ℕ) → length a ≡ answerSize f → length (stepOf f s a .answer) ≡ answerSize f
+answer-size f s a h = each-record (λ (t : Step). length (t .answer) ≡ answerSize f) f s a h (λ event kind w e n _. record-size f event kind w e n)
+
+-- ---- the code that is handed back stands in byte 5, unless it is 2 and nothing is written
+
+record-code : (f : Format) (event : List ℕ) (kind : ℕ) (w : KindAnswer) → length event ≡ 4 → getD (recordOf f event kind w) codeAt 0 ≡ w .code
+unfolding recordOf
+record-code f event kind w h = ap (λ (k : ℕ). getD (recordOf f event kind w) (k + 1) 0) (sym h) ∙ getD-append-add event _ 1 0
+
+pub code-in-place : (f : Format) (s a : List ℕ) → length a ≡ answerSize f → getD (stepOf f s a .answer) codeAt 0 ≡ stepOf f s a .code
+code-in-place f s a h = each-record (λ (t : Step). getD (t .answer) codeAt 0 ≡ t .code) f s a h (λ event kind w e _ _. record-code f event kind w e)
+
+same? : (m n : ℕ) → (m ≡ n) ⊎ (m ≡ n → ⊥)
+same? m n = by-eqb {A = ℕ} (λ _. (m ≡ n) ⊎ (m ≡ n → ⊥)) m n 0 0 inl inr
+
+no-room : (f : Format) (s a : List ℕ) → (length a ≡ answerSize f → ⊥) → stepOf f s a .code ≡ 2
+unfolding stepOf
+no-room f s a n = rw (ne-eqb (length a) (answerSize f) n)
+
+pub code-unless-2 : (f : Format) (s a : List ℕ) → (stepOf f s a .code ≡ 2 → ⊥) → getD (stepOf f s a .answer) codeAt 0 ≡ stepOf f s a .code
+code-unless-2 f s a k = ⊎-elim (λ (e : length a ≡ answerSize f). code-in-place f s a e) (λ (n : length a ≡ answerSize f → ⊥). absurd (k (no-room f s a n))) (same? (length a) (answerSize f))
+
+-- ---- with a code other than 0 every byte from the mark in byte 7 on is zero
+
+record-clear : (f : Format) (event : List ℕ) (kind code pivot : ℕ) → length event ≡ 4 → drop 7 (recordOf f event kind (refusedKind f code pivot)) ≡ 0 ∷ replicate (numberBytes f * 21) 0
+unfolding recordOf
+record-clear f event kind code pivot h =
+    let e : numberBytes f * 3 + (numberBytes f * 9 + numberBytes f * 9) ≡ numberBytes f * 21 = omega arith in
+    ap (λ (k : ℕ). drop (k + 3) (recordOf f event kind (refusedKind f code pivot))) (sym h)
+    ∙ drop-append-add event _ 3
+    ∙ ap (λ (l : List ℕ). 0 ∷ l) (rw (zeros-bytes f 3, zeros-bytes f 9, replicate-append-replicate {A = ℕ} (numberBytes f * 9) (numberBytes f * 9) 0, replicate-append-replicate {A = ℕ} (numberBytes f * 3) (numberBytes f * 9 + numberBytes f * 9) 0, e))
+
+pub refused-clear : (f : Format) (s a : List ℕ) → length a ≡ answerSize f → (stepOf f s a .code ≡ 0 → ⊥) → drop 7 (stepOf f s a .answer) ≡ 0 ∷ replicate (numberBytes f * 21) 0
+refused-clear f s a h =
+    each-record (λ (t : Step). (t .code ≡ 0 → ⊥) → drop 7 (t .answer) ≡ 0 ∷ replicate (numberBytes f * 21) 0) f s a h
+    (λ event kind w e _ c k. ap (λ (w : KindAnswer). drop 7 (recordOf f event kind w)) (c k) ∙ record-clear f event kind (w .code) (w .count) e)
+
+-- ---- after the record's test no kernel gives 5
+
+both : (a b : Bool) → (a && b) ≡ true → (a ≡ true) × (b ≡ true)
+both true b h = (refl, h)
+both false b h = absurd (subst (λ (t : Bool). T (not t)) h tt)
+
+pub five-is-the-test : (f : Format) (s : List ℕ) → usedFinite f (kindOf s) s ≡ true → workOf f (kindOf s) (numbersFrom f 9 nineAt s) (numbersFrom f 3 (threeAt f) s) .code ≡ 5 → ⊥
+five-is-the-test f s h =
+    let kind = kindOf s in
+    let used = both (allFinite (numbersFrom f (nineUsed kind) nineAt s)) (allFinite (numbersFrom f (threeUsed kind) (threeAt f) s)) h in
+    work-five f kind (numbersFrom f 9 nineAt s) (numbersFrom f 3 (threeAt f) s)
+    (ap allFinite (first-tabulate (nineUsed kind) 9 (λ (i : ℕ). numberAt f (placeOf f nineAt i) s) (nine-most kind)) ∙ used .0)
+    (ap allFinite (first-tabulate (threeUsed kind) 3 (λ (i : ℕ). numberAt f (placeOf f (threeAt f) i) s) (three-most kind)) ∙ used .1)
+
+-- ---- many answers have the size of so many
+
+pub answers-size : (f : Format) (n : ℕ) (s : List ℕ) → requestSize f * n ≤ length s → length (answersOf f n s) ≡ answerSize f * n
+unfolding answersOf
+answers-size f zero s h = sym (mul-zero (answerSize f))
+answers-size f (suc n) s h =
+    let k : requestSize f * n + requestSize f ≤ length s = rw mul-suc at h in
+    let size : length (requestOf f n s) ≡ requestSize f = simp (length-take, length-drop) (omega arith) in
+    rw (length-append, answers-size f n s (omega arith), record-size f (take eventBytes (requestOf f n s)) (kindOf (requestOf f n s)) (judgedOf f (requestOf f n s)) (event-length f (requestOf f n s) size) (judged-sized f (requestOf f n s)))
+    (sym (mul-suc (answerSize f) n))

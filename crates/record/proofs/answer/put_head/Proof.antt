@@ -1,0 +1,64 @@
+-- Each turn copies one byte more. Assumes nothing.
+use borrow.Author.Needs.{needs}
+use mathlib.Core.Path.{_≡_, refl, _∙_}
+use Prim.Native.Nat.{_-_, _≤_}
+use native.Mathlib.Omega.{arith}
+use lib.ListN.{length, take, length-set}
+use lib.Seq.{take-all}
+use Rattle.record.proofs.Parts.{copied}
+use Rattle.record.proofs.answer.put_head.Statement.{statement}
+use Rattle.record.proofs.answer.put_head.Tie as tie
+
+abbrev Inv-loop : tie.InvT-loop
+Inv-loop out₀ head i₀ out i = (i ≤ 8) × (length out ≡ length out₀) × (take i out ≡ take i head)
+
+abbrev μ-loop : tie.MeasureT-loop
+μ-loop out₀ head i₀ out i = 8 - i
+
+loop-holds : tie.Need-loop-holds Inv-loop μ-loop
+loop-holds c = (omega arith, refl, refl)
+
+array-read-out : tie.Need-array-read-out Inv-loop μ-loop
+array-read-out c = search needs
+
+slice-write-out : tie.Need-slice-write-out Inv-loop μ-loop
+slice-write-out c = search needs
+
+add-i : tie.Need-add-i Inv-loop μ-loop
+add-i c = search needs
+
+loop-less : tie.Need-loop-less Inv-loop μ-loop
+loop-less c = search needs
+
+loop-again : tie.Need-loop-again Inv-loop μ-loop
+loop-again c =
+    let l = c .before .loop in
+    let a = c .before .before .args in
+    let n : length (a .t2) ≡ 8 = search needs in
+    (omega arith, simp length-set (omega arith), copied (l .out) (a .t2) (l .i) (omega arith) (omega arith) (l .inv .2))
+
+same-length : tie.Need-same-length Inv-loop μ-loop
+same-length c = search needs
+
+returns : tie.Need-returns Inv-loop μ-loop
+returns c =
+    let l = c .before .loop in
+    let a = c .before .before .args in
+    let n : length (a .t2) ≡ 8 = search needs in
+    let e : l .i ≡ 8 = omega arith in
+    (rw e at (l .inv .2)) ∙ take-all 8 (a .t2) (omega arith)
+
+pub put-head-spec : {M : Type 1} → statement M
+put-head-spec =
+    tie.close
+    (tie.spec
+    Inv-loop
+    μ-loop
+    loop-holds
+    array-read-out
+    slice-write-out
+    add-i
+    loop-less
+    loop-again
+    same-length
+    returns)

@@ -1,0 +1,81 @@
+-- The head and the three groups of numbers are written one after the other, and fill the slice. Assumes nothing.
+use borrow.Author.Needs.{needs}
+use mathlib.Core.Path.{_≡_}
+use native.Mathlib.Omega.{arith}
+use lib.ListN.{length}
+use lib.Ieee.{binary64}
+use Rattle.record.specs.Answer.{ofWorked}
+use Rattle.record.proofs.Records.{record-of-parts}
+use Rattle.record.proofs.answer.put_record.Statement.{statement}
+use Rattle.record.proofs.answer.put_record.Tie as tie
+
+array-read-t14 : tie.Need-array-read-t14
+array-read-t14 c = search needs
+
+array-read-t17 : tie.Need-array-read-t17
+array-read-t17 c = search needs
+
+array-read-t20 : tie.Need-array-read-t20
+array-read-t20 c = search needs
+
+array-read-t23 : tie.Need-array-read-t23
+array-read-t23 c = search needs
+
+put-head-requires : tie.Need-put-head-requires
+put-head-requires c κs = search needs
+
+slice-aggregate-put-numbers : tie.Need-slice-aggregate-put-numbers
+slice-aggregate-put-numbers c = search needs
+
+put-numbers-requires : tie.Need-put-numbers-requires
+put-numbers-requires c κs = omega (arith, slice-aggregate-put-numbers c)
+
+slice-aggregate-put-numbers-2 : tie.Need-slice-aggregate-put-numbers-2
+slice-aggregate-put-numbers-2 c = search needs
+
+put-numbers-requires-2 : tie.Need-put-numbers-requires-2
+put-numbers-requires-2 c κs = omega (arith, slice-aggregate-put-numbers-2 c)
+
+slice-aggregate-put-numbers-3 : tie.Need-slice-aggregate-put-numbers-3
+slice-aggregate-put-numbers-3 c = search needs
+
+put-numbers-requires-3 : tie.Need-put-numbers-requires-3
+put-numbers-requires-3 c κs = omega (arith, slice-aggregate-put-numbers-3 c)
+
+same-length : tie.Need-same-length
+same-length c = search needs
+
+sizes : (c : tie.Start) → (length (c .args .t2) ≡ 4) × (length (c .args .w .values) ≡ 3) × (length (c .args .w .left) ≡ 9) × (length (c .args .w .right) ≡ 9)
+sizes c = (search needs, search needs, search needs, search needs)
+
+returns : tie.Need-returns
+returns c =
+    let right = c .before .before in
+    let left = right .before .before .before .before .before in
+    let values = left .before .before .before .before .before in
+    let head = values .before .before .before .before .before .before .before .before in
+    let start = head .before .before .before in
+    let a = start .args in
+    let v : length (a .w .values) ≡ 3 = sizes start .1 in
+    let l : length (a .w .left) ≡ 9 = sizes start .2 in
+    let r : length (a .w .right) ≡ 9 = sizes start .3 in
+    record-of-parts binary64 (a .t2) (a .kind) (ofWorked (a .w)) (head .put-head .last .0) (values .put-numbers .last .0) (left .put-numbers2 .last .0) (right .put-numbers3 .last .0) 8 32 104 176 (sizes start .0)
+    (head .put-head .ensures) (rw v at (values .put-numbers .ensures)) (rw l at (left .put-numbers2 .ensures)) (rw r at (right .put-numbers3 .ensures)) (omega (arith, same-length c, start .pre))
+
+pub put-record-spec : {M : Type 1} → statement M
+put-record-spec =
+    tie.close
+    (tie.spec
+    array-read-t14
+    array-read-t17
+    array-read-t20
+    array-read-t23
+    put-head-requires
+    slice-aggregate-put-numbers
+    put-numbers-requires
+    slice-aggregate-put-numbers-2
+    put-numbers-requires-2
+    slice-aggregate-put-numbers-3
+    put-numbers-requires-3
+    same-length
+    returns)

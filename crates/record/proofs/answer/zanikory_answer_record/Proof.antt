@@ -1,0 +1,92 @@
+-- The two sizes are asked in turn, and each outcome is one record, or none where the answer has no room. Assumes nothing.
+use borrow.Author.Needs.{needs}
+use borrow.Author.Tests.{eq-eqb, ne-eqb}
+use mathlib.Core.Path.{refl, ap, _∙_}
+use mathlib.Core.List.{List, [], _∷_}
+use Prim.Native.Nat.{ℕ}
+use native.Mathlib.Omega.{arith}
+use lib.ListN.{getD, replicate}
+use lib.Ieee.{binary64}
+use Rattle.kinds.specs.declared.work.Worked.{Worked}
+use Rattle.record.specs.Request.{kindOf, judgedOf}
+use Rattle.record.specs.Answer.{ofWorked, recordOf, stepOf}
+use Rattle.record.proofs.Parts.{first-four}
+use Rattle.record.proofs.answer.zanikory_answer_record.Statement.{statement}
+use Rattle.record.proofs.answer.zanikory_answer_record.Tie as tie
+
+returns : tie.Need-returns
+unfolding stepOf
+returns c = rw (ne-eqb _ 176 (c .if1 .taken)) (refl, refl)
+
+refused-requires : tie.Need-refused-requires
+refused-requires c κs = search needs
+
+put-record-requires : tie.Need-put-record-requires
+put-record-requires c κs = search needs
+
+same-length : tie.Need-same-length
+same-length c = search needs
+
+returns-2 : tie.Need-returns-2
+unfolding stepOf
+returns-2 c =
+    let w = c .before .before .before in
+    let sizes = w .before .before in
+    rw (eq-eqb _ 176 (sizes .before .if1 .left), ne-eqb _ 104 (sizes .if2 .taken))
+    (refl, c .before .before .put-record .ensures ∙ ap (λ (r : Worked). recordOf binary64 (replicate 4 0) 0 (ofWorked r)) (w .refused .ensures))
+
+judged-requires : tie.Need-judged-requires
+judged-requires c κs = search needs
+
+shared-slice-read-put-record : tie.Need-shared-slice-read-put-record
+shared-slice-read-put-record c = search needs
+
+shared-slice-read-t15 : tie.Need-shared-slice-read-t15
+shared-slice-read-t15 c = search needs
+
+shared-slice-read-t17 : tie.Need-shared-slice-read-t17
+shared-slice-read-t17 c = search needs
+
+shared-slice-read-t19 : tie.Need-shared-slice-read-t19
+shared-slice-read-t19 c = search needs
+
+shared-slice-read-put-record-2 : tie.Need-shared-slice-read-put-record-2
+shared-slice-read-put-record-2 c = search needs
+
+put-record-requires-2 : tie.Need-put-record-requires-2
+put-record-requires-2 c κs = search needs
+
+same-length-2 : tie.Need-same-length-2
+same-length-2 c = search needs
+
+returns-3 : tie.Need-returns-3
+unfolding stepOf
+returns-3 c =
+    let w = c .before .before .before .before .before .before .before .before .before in
+    let sizes = w .before in
+    let s = sizes .before .before .before .before .args .request .now in
+    rw (eq-eqb _ 176 (sizes .before .if1 .left), eq-eqb _ 104 (sizes .if2 .left)) (
+      ap (λ (r : Worked). r .code) (w .judged .ensures),
+      c .before .before .put-record2 .ensures
+          ∙ ap (λ (r : Worked). recordOf binary64 (getD s 0 0 ∷ getD s 1 0 ∷ getD s 2 0 ∷ getD s 3 0 ∷ []) (kindOf s) (ofWorked r)) (w .judged .ensures)
+          ∙ ap (λ (e : List ℕ). recordOf binary64 e (kindOf s) (judgedOf binary64 s)) (first-four s (omega arith)),
+    )
+
+pub zanikory-answer-record-spec : {M : Type 1} → statement M
+zanikory-answer-record-spec =
+    tie.close
+    (tie.spec
+    returns
+    refused-requires
+    put-record-requires
+    same-length
+    returns-2
+    judged-requires
+    shared-slice-read-put-record
+    shared-slice-read-t15
+    shared-slice-read-t17
+    shared-slice-read-t19
+    shared-slice-read-put-record-2
+    put-record-requires-2
+    same-length-2
+    returns-3)

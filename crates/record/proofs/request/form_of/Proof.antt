@@ -1,0 +1,42 @@
+-- The kind is asked first, and then the zeros. Assumes nothing.
+use borrow.Author.Needs.{needs}
+use mathlib.Core.Path.{sym, _∙_}
+use Rattle.record.specs.Request.{formOf}
+use Rattle.record.proofs.request.form_of.Statement.{statement}
+use Rattle.record.proofs.request.form_of.Tie as tie
+
+shared-slice-read-kind : tie.Need-shared-slice-read-kind
+shared-slice-read-kind c = search needs
+
+is-known-requires : tie.Need-is-known-requires
+is-known-requires c κs = search needs
+
+unused-zero-requires : tie.Need-unused-zero-requires
+unused-zero-requires c κs = search needs
+
+returns : tie.Need-returns
+unfolding formOf
+returns c =
+    let k = c .before .before .before in
+    rw (sym (k .is-known .ensures) ∙ c .before .before .if1 .taken, sym (c .before .unused-zero .ensures) ∙ c .if2 .taken)
+
+returns-2 : tie.Need-returns-2
+unfolding formOf
+returns-2 c =
+    let k = c .before .before .before in
+    rw (sym (k .is-known .ensures) ∙ c .before .before .if1 .taken, sym (c .before .unused-zero .ensures) ∙ c .if2 .left)
+
+returns-3 : tie.Need-returns-3
+unfolding formOf
+returns-3 c = rw (sym (c .before .is-known .ensures) ∙ c .if1 .left)
+
+pub form-of-spec : {M : Type 1} → statement M
+form-of-spec =
+    tie.close
+    (tie.spec
+    shared-slice-read-kind
+    is-known-requires
+    unused-zero-requires
+    returns
+    returns-2
+    returns-3)

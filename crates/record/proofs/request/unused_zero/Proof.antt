@@ -1,0 +1,82 @@
+-- The three tests in turn; a kind uses at most nine numbers and three, so that each lies in the request. Assumes nothing.
+use borrow.Author.Needs.{needs}
+use mathlib.Core.Path.{_≡_, sym, ap, _∙_}
+use mathlib.Core.Bool.{true, false}
+use Prim.Native.Nat.{ℕ, _+_, _*_, _≤_}
+use native.Mathlib.Omega.{arith}
+use Rattle.kinds.specs.Slots.{nineUsed}
+use Rattle.record.specs.Bytes.{zeroFrom}
+use Rattle.record.proofs.Used.{nine-most, three-most}
+use Rattle.record.proofs.request.unused_zero.Statement.{statement}
+use Rattle.record.proofs.request.unused_zero.Tie as tie
+
+nine-used-requires : tie.Need-nine-used-requires
+nine-used-requires c κs = search needs
+
+three-used-requires : tie.Need-three-used-requires
+three-used-requires c κs = search needs
+
+zeros-in-requires : tie.Need-zeros-in-requires
+zeros-in-requires c κs = search needs
+
+nine-fit : (c : tie.After-nine-used) → c .nine-used .result ≤ 9
+nine-fit c = rw (c .nine-used .ensures) (nine-most (c .before .before .args .kind))
+
+three-fit : (c : tie.After-three-used) → c .three-used .result ≤ 3
+three-fit c = rw (c .three-used .ensures) (three-most (c .before .before .before .args .kind))
+
+mul-zeros-in : tie.Need-mul-zeros-in
+mul-zeros-in c = omega (arith, nine-fit (c .before .before .before))
+
+add-zeros-in : tie.Need-add-zeros-in
+add-zeros-in c = omega (arith, nine-fit (c .before .before .before))
+
+zeros-in-requires-2 : tie.Need-zeros-in-requires-2
+zeros-in-requires-2 c κs = let h = nine-fit (c .before .before .before) in (omega arith, omega arith)
+
+mul-zeros-in-2 : tie.Need-mul-zeros-in-2
+mul-zeros-in-2 c = omega (arith, three-fit (c .before .before .before .before))
+
+add-zeros-in-2 : tie.Need-add-zeros-in-2
+add-zeros-in-2 c = omega (arith, three-fit (c .before .before .before .before))
+
+zeros-in-requires-3 : tie.Need-zeros-in-requires-3
+zeros-in-requires-3 c κs = let h = three-fit (c .before .before .before .before) in (omega arith, omega arith)
+
+returns : tie.Need-returns
+returns c =
+    let three = c .before .before .before .before .before in
+    let a = three .before .before .before .args in
+    let reserved : zeroFrom 5 8 (a .s .now) ≡ true = sym (c .before .before .before .before .zeros-in .ensures) ∙ c .before .before .before .if1 .taken in
+    let nine : zeroFrom (8 + 8 * nineUsed (a .kind)) 80 (a .s .now) ≡ true =
+    ap (λ (n : ℕ). zeroFrom (8 + 8 * n) 80 (a .s .now)) (sym (three .before .nine-used .ensures)) ∙ sym (c .before .before .zeros-in2 .ensures) ∙ c .before .if2 .taken in
+    rw (reserved, nine) (c .zeros-in3 .ensures ∙ ap (λ (n : ℕ). zeroFrom (80 + 8 * n) 104 (a .s .now)) (three .three-used .ensures))
+
+returns-2 : tie.Need-returns-2
+returns-2 c =
+    let three = c .before .before .before .before in
+    let a = three .before .before .before .args in
+    let reserved : zeroFrom 5 8 (a .s .now) ≡ true = sym (c .before .before .before .zeros-in .ensures) ∙ c .before .before .if1 .taken in
+    let nine : zeroFrom (8 + 8 * nineUsed (a .kind)) 80 (a .s .now) ≡ false =
+    ap (λ (n : ℕ). zeroFrom (8 + 8 * n) 80 (a .s .now)) (sym (three .before .nine-used .ensures)) ∙ sym (c .before .zeros-in2 .ensures) ∙ c .if2 .left in
+    rw (reserved, nine)
+
+returns-3 : tie.Need-returns-3
+returns-3 c = rw (sym (c .before .zeros-in .ensures) ∙ c .if1 .left)
+
+pub unused-zero-spec : {M : Type 1} → statement M
+unused-zero-spec =
+    tie.close
+    (tie.spec
+    nine-used-requires
+    three-used-requires
+    zeros-in-requires
+    mul-zeros-in
+    add-zeros-in
+    zeros-in-requires-2
+    mul-zeros-in-2
+    add-zeros-in-2
+    zeros-in-requires-3
+    returns
+    returns-2
+    returns-3)

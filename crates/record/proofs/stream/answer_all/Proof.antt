@@ -1,0 +1,70 @@
+-- Each turn answers one request more, and what lies behind the answers stays. Assumes nothing.
+use borrow.Author.Needs.{needs}
+use mathlib.Core.Path.{_≡_, refl, sym, _∙_}
+use Prim.Native.Nat.{_-_, _*_, _≤_}
+use native.Mathlib.Omega.{arith}
+use lib.ListN.{length, take, drop, take-append-drop}
+use lib.Ieee.{binary64}
+use Rattle.record.specs.Stream.{answersOf, streamOf}
+use Rattle.record.proofs.Streams.{answer-more, rest-more}
+use Rattle.record.proofs.stream.answer_all.Statement.{statement}
+use Rattle.record.proofs.stream.answer_all.Tie as tie
+
+abbrev Inv-loop : tie.InvT-loop
+Inv-loop requests answers₀ n i₀ answers i = (i ≤ n) × (length answers ≡ length answers₀) × (take (176 * i) answers ≡ answersOf binary64 i requests) × (drop (176 * i) answers ≡ drop (176 * i) answers₀)
+
+abbrev μ-loop : tie.MeasureT-loop
+μ-loop requests answers₀ n i₀ answers i = n - i
+
+whole-records-requires : tie.Need-whole-records-requires Inv-loop μ-loop
+whole-records-requires c κs = search needs
+
+loop-holds : tie.Need-loop-holds Inv-loop μ-loop
+unfolding answersOf
+loop-holds c = (omega arith, refl, refl, refl)
+
+answer-one-requires : tie.Need-answer-one-requires Inv-loop μ-loop
+answer-one-requires c κs = (omega arith, omega arith)
+
+add-i : tie.Need-add-i Inv-loop μ-loop
+add-i c = search needs
+
+loop-less : tie.Need-loop-less Inv-loop μ-loop
+loop-less c = search needs
+
+loop-again : tie.Need-loop-again Inv-loop μ-loop
+loop-again c =
+    let l = c .before .before .before .before .before .loop in
+    let a = c .before .before .before .before .before .before .before .before .before .args in (
+      omega arith,
+      omega arith,
+      answer-more (c .before .before .answer-one .last .1 .0) (l .answers) (a .requests .now) (l .i) (c .before .before .answer-one .ensures .0) (l .inv .2),
+      rest-more (c .before .before .answer-one .last .1 .0) (l .answers) (a .answers .now) (l .i) (c .before .before .answer-one .ensures .1) (l .inv .3),
+    )
+
+same-length : tie.Need-same-length Inv-loop μ-loop
+same-length c = search needs
+
+returns : tie.Need-returns Inv-loop μ-loop
+unfolding streamOf
+returns c =
+    let l = c .before .loop in
+    let n = c .before .before .whole-records in
+    let a = c .before .before .before .before .before .args in
+    let e : l .i ≡ n .result = omega arith in
+    (n .ensures, sym (take-append-drop (176 * l .i) (l .answers)) ∙ (rw (l .inv .2, l .inv .3, e, n .ensures)))
+
+pub answer-all-spec : {M : Type 1} → statement M
+answer-all-spec =
+    tie.close
+    (tie.spec
+    Inv-loop
+    μ-loop
+    whole-records-requires
+    loop-holds
+    answer-one-requires
+    add-i
+    loop-less
+    loop-again
+    same-length
+    returns)

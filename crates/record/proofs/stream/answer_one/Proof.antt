@@ -1,0 +1,81 @@
+-- The step is made on the request and on the place of its answer; what lies before and behind stays. Assumes nothing.
+use borrow.Author.Needs.{needs}
+use mathlib.Core.Path.{_≡_, ap, _∙_}
+use Prim.Native.Nat.{ℕ, _+_, _-_, _*_}
+use native.Mathlib.Omega.{arith}
+use lib.ListN.{length, take, drop, length-take, length-drop}
+use lib.Seq.{drop-drop}
+use lib.Ieee.{binary64}
+use Rattle.record.specs.Answer.{answeredOf}
+use Rattle.record.proofs.Streams.{stepped, before-part, behind-part}
+use Rattle.record.proofs.stream.answer_one.Statement.{statement}
+use Rattle.record.proofs.stream.answer_one.Tie as tie
+
+mul-a : tie.Need-mul-a
+mul-a c = search needs
+
+mul-b : tie.Need-mul-b
+mul-b c = search needs
+
+add-a-end : tie.Need-add-a-end
+add-a-end c = search needs
+
+add-b-end : tie.Need-add-b-end
+add-b-end c = search needs
+
+sub-zanikory-answer-record : tie.Need-sub-zanikory-answer-record
+sub-zanikory-answer-record c = search needs
+
+part-zanikory-answer-record-start : tie.Need-part-zanikory-answer-record-start
+part-zanikory-answer-record-start c = search needs
+
+part-zanikory-answer-record-end : tie.Need-part-zanikory-answer-record-end
+part-zanikory-answer-record-end c = search needs
+
+sub-zanikory-answer-record-2 : tie.Need-sub-zanikory-answer-record-2
+sub-zanikory-answer-record-2 c = search needs
+
+part-zanikory-answer-record-start-2 : tie.Need-part-zanikory-answer-record-start-2
+part-zanikory-answer-record-start-2 c = search needs
+
+part-zanikory-answer-record-end-2 : tie.Need-part-zanikory-answer-record-end-2
+part-zanikory-answer-record-end-2 c = search needs
+
+zanikory-answer-record-requires : tie.Need-zanikory-answer-record-requires
+zanikory-answer-record-requires c κs = search needs
+
+same-length : tie.Need-same-length
+same-length c = search needs
+
+returns : tie.Need-returns
+returns c =
+    let step = c .before .before .zanikory-answer-record in
+    let start = c .before .before .before .before .before .before .before in
+    let a = start .args in
+    let b = 176 * a .i in
+    let n : (b + 176) - b ≡ 176 = omega arith in
+    let m : (104 * a .i + 104) - 104 * a .i ≡ 104 = omega arith in
+    let room : length (take ((b + 176) - b) (drop b (a .answers .now))) ≡ 176 = simp (length-take, length-drop) (omega arith) in
+    let size : length (take ((104 * a .i + 104) - 104 * a .i) (drop (104 * a .i) (a .requests .now))) ≡ 104 = simp (length-take, length-drop) (omega arith) in
+    let done = step .ensures .1 ∙ stepped _ _ size room ∙ ap (λ (k : ℕ). answeredOf binary64 (take k (drop (104 * a .i) (a .requests .now)))) m in
+    let rest : b + ((b + 176) - b) ≡ b + 176 = omega arith in
+    let long : length (step .last .1 .0) ≡ 176 = step .kept .1 .0 ∙ room in
+    (before-part (a .answers .now) (step .last .1 .0) _ _ b (start .pre .1) long done, behind-part (a .answers .now) (step .last .1 .0) _ b (start .pre .1) long ∙ drop-drop ((b + 176) - b) b (a .answers .now) ∙ ap (λ (k : ℕ). drop k (a .answers .now)) rest)
+
+pub answer-one-spec : {M : Type 1} → statement M
+answer-one-spec =
+    tie.close
+    (tie.spec
+    mul-a
+    mul-b
+    add-a-end
+    add-b-end
+    sub-zanikory-answer-record
+    part-zanikory-answer-record-start
+    part-zanikory-answer-record-end
+    sub-zanikory-answer-record-2
+    part-zanikory-answer-record-start-2
+    part-zanikory-answer-record-end-2
+    zanikory-answer-record-requires
+    same-length
+    returns)

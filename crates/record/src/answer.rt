@@ -1,0 +1,71 @@
+// The record step: a request's bytes to the bytes of its answer.
+use crate::bytes::put_numbers;
+use crate::request::KIND_AT;
+use crate::request::REQUEST_SIZE;
+use crate::request::judged;
+use kinds::work::Worked;
+use kinds::work::refused;
+use matrix::codes::INPUT_LENGTH;
+use matrix::codes::OUTPUT_LENGTH;
+ghost use mathlib.Core.Path.{_≡_};
+ghost use Prim.Native.Nat.{_≤_};
+ghost use lib.ListN.{length, take};
+ghost use lib.Ieee.{binary64};
+ghost use Rattle.record.specs.Answer.{ofWorked, recordOf, stepOf, Stepped};
+
+pub const ANSWER_SIZE: usize = 176;
+
+// The first eight bytes.
+fn put_head(out: &mut [u8], head: [u8; 8])
+    requires { ⌜ 8 ≤ length (now out) ⌝ }
+    ensures { λ _. ⌜ take 8 (now (out .exit)) ≡ head ⌝ }
+{
+    let mut i = 0usize;
+    while i < 8usize {
+        out[i] = head[i];
+        i += 1usize;
+    }
+}
+
+fn put_record(out: &mut [u8], event: [u8; 4], kind: u8, w: Worked)
+    requires { ⌜ length (now out) ≡ 176 ⌝ }
+    ensures { λ _. ⌜ now (out .exit) ≡ recordOf binary64 event kind (ofWorked w) ⌝ }
+{
+    put_head(
+        out,
+        [
+            event[0],
+            event[1],
+            event[2],
+            event[3],
+            kind,
+            w.code,
+            w.count,
+            w.settled,
+        ],
+    );
+    let values = w.values;
+    let left = w.left;
+    let right = w.right;
+    put_numbers(out, 8, &values);
+    put_numbers(out, 32, &left);
+    put_numbers(out, 104, &right);
+}
+
+// The code, with the answer to any request in the answer slice. An answer slice of the wrong size stays as it is.
+#[no_mangle]
+pub extern "C" fn zanikory_answer_record(request: &[u8], answer: &mut [u8]) -> u8
+    ensures { λ r. ⌜ Stepped (stepOf binary64 (now (request .entry)) (now (answer .entry))) r (now (answer .exit)) ⌝ }
+{
+    if answer.len() != ANSWER_SIZE {
+        return OUTPUT_LENGTH;
+    }
+    if request.len() != REQUEST_SIZE {
+        put_record(answer, [0u8; 4], 0, refused(INPUT_LENGTH, 0));
+        return INPUT_LENGTH;
+    }
+    let w = judged(request);
+    let event = [request[0], request[1], request[2], request[3]];
+    put_record(answer, event, request[KIND_AT], w);
+    w.code
+}

@@ -1,0 +1,130 @@
+// What a request's bytes say: the tests of 3, 4 and 5 in their order, and then its kind's answer.
+use crate::bytes::number_at;
+use crate::bytes::zeros_in;
+use float::sign::all_finite;
+use kinds::slots::is_known;
+use kinds::slots::nine_used;
+use kinds::slots::three_used;
+use kinds::work::Worked;
+use kinds::work::refused;
+use kinds::work::work;
+use matrix::codes::DONE;
+use matrix::codes::INPUT_LENGTH;
+use matrix::codes::INPUT_NOT_FINITE;
+use matrix::codes::RESERVED;
+use matrix::codes::UNKNOWN_KIND;
+ghost use mathlib.Core.Path.{_≡_};
+ghost use mathlib.Core.Bool.{_&&_};
+ghost use Prim.Native.Nat.{_≤_};
+ghost use lib.ListN.{length, take};
+ghost use lib.Ieee.{binary64};
+ghost use Rattle.float.specs.Sign.{allFinite};
+ghost use Rattle.kinds.specs.Slots.{nineUsed, threeUsed};
+ghost use Rattle.kinds.specs.Work.{worked};
+ghost use Rattle.record.specs.Layout.{nineAt, threeAt};
+ghost use Rattle.record.specs.Bytes.{numbersFrom};
+ghost use Rattle.record.specs.Request.{reservedZero, unusedZero, formOf, sizedFormOf, judgedOf};
+
+pub const REQUEST_SIZE: usize = 104;
+
+// Where the kind stands, in a request and in an answer.
+pub(crate) const KIND_AT: usize = 4;
+
+// Whether the reserved bytes and the numbers that the kind doesn't use are all zero bits.
+fn unused_zero(s: &[u8], kind: u8) -> bool
+    requires { ⌜ length (now s) ≡ 104 ⌝ }
+    ensures { λ r. ⌜ r ≡ (reservedZero kind (now (s .entry)) && unusedZero binary64 kind (now (s .entry))) ⌝ }
+{
+    let n = nine_used(kind);
+    let t = three_used(kind);
+    if zeros_in(s, 5, 8) {
+        if zeros_in(s, 8usize + 8usize * n, 80) {
+            return zeros_in(s, 80usize + 8usize * t, REQUEST_SIZE);
+        }
+    }
+    false
+}
+
+fn form_of(s: &[u8]) -> u8
+    requires { ⌜ length (now s) ≡ 104 ⌝ }
+    ensures { λ r. ⌜ r ≡ formOf binary64 (now (s .entry)) ⌝ }
+{
+    let kind = s[KIND_AT];
+    if is_known(kind) {
+        if unused_zero(s, kind) {
+            return DONE;
+        }
+        return RESERVED;
+    }
+    UNKNOWN_KIND
+}
+
+// The tests of 3 and 4 on a request's bytes: 0, 3 or 4; and 1 for a slice of another size.
+pub fn form(request: &[u8]) -> u8
+    ensures { λ r. ⌜ r ≡ sizedFormOf binary64 (now (request .entry)) ⌝ }
+{
+    if request.len() != REQUEST_SIZE {
+        return INPUT_LENGTH;
+    }
+    form_of(request)
+}
+
+fn numbers9(s: &[u8]) -> [f64; 9]
+    requires { ⌜ length (now s) ≡ 104 ⌝ }
+    ensures { λ r. ⌜ r ≡ numbersFrom binary64 9 nineAt (now (s .entry)) ⌝ }
+{
+    [
+        number_at(s, 8),
+        number_at(s, 16),
+        number_at(s, 24),
+        number_at(s, 32),
+        number_at(s, 40),
+        number_at(s, 48),
+        number_at(s, 56),
+        number_at(s, 64),
+        number_at(s, 72),
+    ]
+}
+
+fn numbers3(s: &[u8]) -> [f64; 3]
+    requires { ⌜ length (now s) ≡ 104 ⌝ }
+    ensures { λ r. ⌜ r ≡ numbersFrom binary64 3 (threeAt binary64) (now (s .entry)) ⌝ }
+{
+    [number_at(s, 80), number_at(s, 88), number_at(s, 96)]
+}
+
+// Whether the first n are finite.
+fn first_finite(xs: &[f64], n: usize) -> bool
+    requires { ⌜ n ≤ length (now xs) ⌝ }
+    ensures { λ r. ⌜ r ≡ allFinite (take n (now (xs .entry))) ⌝ }
+{
+    all_finite(&xs[..n])
+}
+
+// Whether the numbers that the kind uses are finite.
+fn used_finite(kind: u8, nine: [f64; 9], three: [f64; 3]) -> bool
+    ensures { λ r. ⌜ r ≡ (allFinite (take (nineUsed kind) nine) && allFinite (take (threeUsed kind) three)) ⌝ }
+{
+    if first_finite(&nine, nine_used(kind)) {
+        return first_finite(&three, three_used(kind));
+    }
+    false
+}
+
+// The answer of a request of the right size.
+pub(crate) fn judged(s: &[u8]) -> Worked
+    requires { ⌜ length (now s) ≡ 104 ⌝ }
+    ensures { λ w. ⌜ w ≡ worked (judgedOf binary64 (now (s .entry))) ⌝ }
+{
+    let code = form_of(s);
+    if code != DONE {
+        return refused(code, 0);
+    }
+    let kind = s[KIND_AT];
+    let nine = numbers9(s);
+    let three = numbers3(s);
+    if used_finite(kind, nine, three) {
+        return work(kind, nine, three);
+    }
+    refused(INPUT_NOT_FINITE, 0)
+}
