@@ -1,5 +1,13 @@
-/* The C entries of the proved library. `rt staticlib exports` writes it to target/staticlib/libexports.a,
-   for programs on x86-64. Every argument has an answer. */
+/* The C entries of the proved libraries, for programs in C (C99) and C++ (C++11) on x86-64. Every argument
+   has an answer.
+
+   The entry on records is in target/staticlib/librecord.a, which `rt staticlib record` writes. Those on
+   doubles are in target/staticlib/libexports.a, which `rt staticlib exports` writes. One program may be
+   linked with both: no name is in both.
+
+   All of them want the floating-point state that a program starts with: rounding to nearest, and
+   subnormals kept. The bits flush-to-zero and denormals-are-zero are off, and stay off as long as nothing
+   of the program is compiled or linked with -ffast-math. */
 #ifndef ZANIKORY_H
 #define ZANIKORY_H
 
@@ -9,6 +17,99 @@
 #ifdef __cplusplus
 extern "C" {
 #endif
+
+/* ---- codes */
+
+/* What an entry answers. With more than one reason to refuse, the order is 2, 1, 3, 4, 5, 8, 6, 7. The
+   worked matrix of a 3x3 call counts among the numbers of its answer, though no record has it. */
+enum zanikory_code {
+    ZANIKORY_CODE_DONE = 0,              /* none of the others */
+    ZANIKORY_CODE_INPUT_LENGTH = 1,      /* an input has a wrong length */
+    ZANIKORY_CODE_OUTPUT_LENGTH = 2,     /* what is to be written has a wrong length */
+    ZANIKORY_CODE_UNKNOWN_KIND = 3,      /* the kind of a request is not 1 to 8 */
+    ZANIKORY_CODE_RESERVED = 4,          /* a reserved byte or an unused number is not all zero bits */
+    ZANIKORY_CODE_INPUT_NOT_FINITE = 5,  /* a used input number is NaN or infinite */
+    ZANIKORY_CODE_PIVOT = 6,             /* a pivot is not above zero */
+    ZANIKORY_CODE_ANSWER_NOT_FINITE = 7, /* a number of the answer is NaN or infinite */
+    ZANIKORY_CODE_OUTSIDE = 8            /* a row or a column is not below the size */
+};
+
+/* ---- records
+
+   A request and an answer are bytes of one fixed size, with no header. Numbers are little-endian, as
+   x86-64 has them, so memcpy moves a uint32_t or a double in or out; a record needs no alignment.
+
+   A request:                                      An answer:
+     0..4     event number, uint32_t                 0..4      event number, the request's
+     4        kind                                   4         kind, the request's
+     5..8     reserved, zero                         5         code
+     8..80    nine doubles                           6         rotations, or the pivot's number
+     80..104  three doubles                          7         settled
+                                                     8..32     values, three doubles
+                                                     32..104   left, nine doubles
+                                                     104..176  right, nine doubles
+
+   The matrix stands in the first of the nine doubles: a symmetric one as its upper triangle, column by
+   column (A11, A12, A22, A13, A23, A33), another one column by column. The right-hand side of a solution
+   stands in the first of the three. Reserved bytes and numbers that the kind does not use are all zero
+   bits: -0 is not.
+
+   Places of an answer that its kind does not use are zero bytes. Byte 6 is the number of rotations for
+   kinds 2 and 4, the number of the refused pivot (1, 2 or 3) with code 6, and else 0. With code 0 byte 7
+   is 1; for kinds 2 and 4 it is 0 where 25 rotations did not settle the matrix, and the numbers are
+   those of the 25th. */
+
+#define ZANIKORY_REQUEST_SIZE 104
+#define ZANIKORY_REQUEST_EVENT_AT 0
+#define ZANIKORY_REQUEST_KIND_AT 4
+#define ZANIKORY_REQUEST_RESERVED_AT 5
+#define ZANIKORY_REQUEST_NINE_AT 8
+#define ZANIKORY_REQUEST_THREE_AT 80
+
+#define ZANIKORY_ANSWER_SIZE 176
+#define ZANIKORY_ANSWER_EVENT_AT 0
+#define ZANIKORY_ANSWER_KIND_AT 4
+#define ZANIKORY_ANSWER_CODE_AT 5
+#define ZANIKORY_ANSWER_ROTATIONS_AT 6
+#define ZANIKORY_ANSWER_PIVOT_AT 6
+#define ZANIKORY_ANSWER_SETTLED_AT 7
+#define ZANIKORY_ANSWER_VALUES_AT 8
+#define ZANIKORY_ANSWER_LEFT_AT 32
+#define ZANIKORY_ANSWER_RIGHT_AT 104
+
+/* The kind of a request, how many it uses of the nine doubles and of the three, and what its answer has.
+   A 2x2 matrix stands in the first four places, a packed factor of a 2x2 in the first three. */
+enum zanikory_kind {
+    ZANIKORY_KIND_EIGEN_2X2 = 1,            /* 3, 0: eigenvalues ascending; their vectors left */
+    ZANIKORY_KIND_EIGEN_3X3 = 2,            /* 6, 0: the same */
+    ZANIKORY_KIND_SVD_2X2 = 3,              /* 4, 0: singular values descending; U left, V right */
+    ZANIKORY_KIND_SVD_3X3 = 4,              /* 9, 0: the same */
+    ZANIKORY_KIND_CHOLESKY_2X2 = 5,         /* 3, 0: the factor, packed as the matrix is, left */
+    ZANIKORY_KIND_CHOLESKY_3X3 = 6,         /* 6, 0: the same */
+    ZANIKORY_KIND_FACTOR_AND_SOLVE_2X2 = 7, /* 3, 2: the factor left, the solution in values */
+    ZANIKORY_KIND_FACTOR_AND_SOLVE_3X3 = 8  /* 6, 3: the same */
+};
+
+/* Answers one request, and gives the code. It is byte 5 of the answer too, unless it is 2. What it leaves:
+     0               the whole answer
+     1               zeros, but for the code: the request does not have 104 bytes
+     2               the answer as it was: it does not have 176 bytes
+     3, 4, 5, 6, 7   the request's event number and kind, the code, with 6 the pivot's number, and zeros
+
+   The caller keeps that neither pointer is null, that each is valid for its length, 0 included, and that
+   the two do not overlap; nothing of that can be checked here. Nothing else is read or written, and no
+   memory is kept from one call to the next: threads may call it at the same time.
+
+       uint8_t request[ZANIKORY_REQUEST_SIZE] = {7, 0, 0, 0, ZANIKORY_KIND_EIGEN_2X2};
+       uint8_t answer[ZANIKORY_ANSWER_SIZE];
+       double matrix[3] = {2, 1, 2}, values[2];
+       memcpy(request + ZANIKORY_REQUEST_NINE_AT, matrix, sizeof matrix);
+       if (zanikory_answer_record(request, sizeof request, answer, sizeof answer) == ZANIKORY_CODE_DONE)
+           memcpy(values, answer + ZANIKORY_ANSWER_VALUES_AT, sizeof values);
+
+   Here the values are 1 and 3. */
+uint8_t zanikory_answer_record(const uint8_t *request, size_t request_length, uint8_t *answer,
+                               size_t answer_length);
 
 /* ---- floats */
 
@@ -33,15 +134,8 @@ uint64_t zanikory_signum_bits(uint64_t b);
 
    An array is a pointer that is not null, and a length in doubles. It is valid for its length, and
    the one that is written overlaps no other; nothing of that can be checked here. The answer is a
-   code:
-     0  done
-     1  an input has a wrong length
-     2  the array to be written has a wrong length
-     5  an input number is NaN or infinite
-     6  a pivot is not above zero
-     7  a number of the answer is NaN or infinite
-     8  a row or a column is not below the size
-   2 comes before 1, and 1 before the others. Whatever is refused with 1 or 2 writes nothing.
+   code, and never 3 or 4. 2 comes before 1, and 1 before the others. Whatever is refused with 1 or 2
+   writes nothing.
 
    A square matrix of size n has n * n numbers, column by column. A symmetric one has its upper
    triangle, column by column: A11, A12, A22, and A13, A23, A33. Rows and columns count from 0.

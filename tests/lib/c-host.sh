@@ -1,18 +1,29 @@
-# Sourced by tests, from the repository's root. A C program of host/ with the static library: built for
-# x86-64 at -O0 and at -O2 and run. Gives the function host_test, and exits with 77 where nothing can run.
+# shellcheck shell=sh
+# Sourced from the repository's root, by tests and by host/build. C programs of host/ with the static
+# libraries: built for x86-64 and run. Gives the functions host_program, run and host_test, and exits with
+# 77 where nothing can run.
 
 command -v rt >/dev/null || { echo "${0##*/} could not run: there is no rt"; exit 77; }
 rt doc >/dev/null || { echo "${0##*/} could not run: rt has no kit for this machine"; exit 77; }
 . tests/lib/run-proved.sh
 
-library=target/staticlib/libexports.a
 room=target/host
-flags='-std=c99 -Wall -Wextra -pedantic -Iinclude'
+# one rounding for each operation
+flags='-Wall -Wextra -pedantic -ffp-contract=off -Iinclude'
 
-# Whether the library is missing, or older than a source or than what was last proved.
-library_is_old() {
-    [ -f "$library" ] || return 0
-    [ -n "$(find crates.txt crates target/rlib/exports.rlib -newer "$library" 2>/dev/null | head -n 1)" ]
+# Whether a crate's library is missing, or older than a source or than what was last proved.
+library_is_old() { # CRATE
+    [ -f "target/staticlib/lib$1.a" ] || return 0
+    [ -n "$(find crates.txt crates "target/rlib/$1.rlib" -newer "target/staticlib/lib$1.a" 2>/dev/null | head -n 1)" ]
+}
+
+# Sets `libraries` to the paths of the crates' libraries, each built anew where it is old.
+make_libraries() { # CRATE..
+    libraries=''
+    for crate; do
+        if library_is_old "$crate"; then rt staticlib "$crate"; fi
+        libraries="$libraries target/staticlib/lib$crate.a"
+    done
 }
 
 cc_works() { echo '#include <stdio.h>' | cc -E - >/dev/null 2>&1; }
@@ -26,25 +37,44 @@ choose_compiler() {
     if cc_works; then compiler=cc; fi
 }
 
-build() { # SOURCE LEVEL PROGRAM
+# The kit's compiler, which has no headers of its own.
+kit_clang() { # WORDS..
+    "$kit_own/toolchain/bin/clang" --target=x86_64-unknown-linux-gnu -fPIE -nostdinc -isystem tests/lib/c-headers "$@"
+}
+
+# Builds a program of a C source, of object files besides it, and of `libraries`.
+build() { # SOURCE LEVEL PROGRAM OBJECT..
+    source=$1 level=$2 built=$3
+    shift 3
     # shellcheck disable=SC2086
     if [ "$compiler" = cc ]; then
-        cc $flags "-O$2" "$1" "$library" -o "$3"
+        cc -std=c99 $flags "-O$level" "$source" "$@" $libraries -o "$built"
     else
-        "$kit_own/toolchain/bin/clang" --target=x86_64-unknown-linux-gnu $flags "-O$2" -fPIE \
-            -nostdinc -isystem tests/lib/c-headers -c "$1" -o "$3.o"
+        kit_clang -std=c99 $flags "-O$level" -c "$source" -o "$built.o"
         "$kit_own/bin/rattle-link" --target x86_64-unknown-linux-gnu --toolchain "$kit_own/toolchain" \
-            -o "$3" "$3.o" "$library" 2>&1
+            -o "$built" "$built.o" "$@" $libraries 2>&1
     fi
 }
 
-run() { # PROGRAM
-    if [ "$compiler" = cc ]; then "$1"; else run_proved "$1"; fi
+# host_program NAME CRATE..: builds host/NAME.c with the crates' libraries, and sets `program` to its path.
+host_program() {
+    program=$room/$1 source_of=host/$1.c
+    shift
+    make_libraries "$@"
+    choose_compiler
+    mkdir -p "$room"
+    build "$source_of" 2 "$program"
 }
 
-# host_test NAME: host/NAME.c must find every answer right, and print the lines of host/NAME.stdout.
+# Runs what was built, on this machine.
+run() { # PROGRAM WORDS..
+    if [ "$compiler" = cc ]; then "$@"; else run_proved "$@"; fi
+}
+
+# host_test NAME CRATE: host/NAME.c, with the crate's library, must find every answer right at -O0 and at
+# -O2, and print the lines of host/NAME.stdout.
 host_test() {
-    if library_is_old; then rt staticlib exports; fi
+    make_libraries "$2"
     choose_compiler
     mkdir -p "$room"
     for level in 0 2; do

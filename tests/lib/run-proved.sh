@@ -1,13 +1,14 @@
+# shellcheck shell=sh
 # Sourced by tests. How a program for x86-64 is run, on such a machine and on any other that the kit
 # knows. Gives the variables kit and kit_own, the kit's folder and its part for this machine, and the
-# function run_proved.
+# functions exec_proved and run_proved.
 
 kit=$(dirname "$(dirname "$(rt doc)")")
 kit_own=$kit/on/$(uname -m)
 
-# run_proved PROGRAM WORDS..: runs it under the kit's loader and C library, as rt does, and where the
-# processor is another kind, under the kit's emulator. Input, output and status are the program's.
-run_proved() (
+# exec_proved PROGRAM WORDS..: becomes the program, under the kit's loader and C library, as rt runs it,
+# and where the processor is another kind, under the kit's emulator. Signals reach the program itself.
+exec_proved() {
     # the loader looks up a name without a slash among the libraries
     case $1 in */*) program=$1 ;; *) program=./$1 ;; esac
     shift
@@ -17,4 +18,7 @@ run_proved() (
     # the emulator would take its settings from these
     for name in $(env | sed -n 's/^\(QEMU_[A-Za-z0-9_]*\)=.*/\1/p'); do unset "$name"; done
     exec "$emulator" "$@"
-)
+}
+
+# run_proved PROGRAM WORDS..: runs it so. Input, output and status are the program's.
+run_proved() ( exec_proved "$@" )

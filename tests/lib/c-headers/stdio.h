@@ -2,6 +2,11 @@
 #ifndef KIT_STDIO_H
 #define KIT_STDIO_H
 
+typedef struct _IO_FILE FILE;
+
+extern FILE *stderr;
+
 int printf(const char *restrict format, ...);
+int fprintf(FILE *restrict file, const char *restrict format, ...);
 
 #endif

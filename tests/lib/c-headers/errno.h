@@ -1,0 +1,11 @@
+/* Of the C library's header, what host/ uses: the kit's compiler comes without headers. */
+#ifndef KIT_ERRNO_H
+#define KIT_ERRNO_H
+
+int *__errno_location(void);
+
+#define errno (*__errno_location())
+#define EINTR 4
+#define EIO 5
+
+#endif
