@@ -1,0 +1,241 @@
+/* Holds what the header says of records against the library, where it is more than the proof sees: the
+   header's own constants, bytes beside the two buffers, addresses of any alignment, and NaNs with a
+   payload. Every call is made from C and from C++. One line for each kind of call, with how many were
+   tried; the first that is wrong of a kind has a line of its own. Ends with 1 if any is. */
+#include <stddef.h>
+#include <stdint.h>
+#include <stdio.h>
+#include <string.h>
+
+#include "zanikory.h"
+
+uint8_t answer_record_from_cpp(const uint8_t *request, size_t request_length, uint8_t *answer,
+                               size_t answer_length);
+
+/* A buffer lies at GUARD or up to seven bytes behind it, and may have twice its right length. */
+enum { GUARD = 64, ROOM = GUARD + 2 * ZANIKORY_ANSWER_SIZE + GUARD };
+
+static uint8_t request_room[ROOM], answer_room[ROOM]; /* what is handed over, and bytes beside it */
+static uint8_t request_left[ROOM], answer_left[ROOM]; /* what must stand there after the call */
+
+/* ---- requests */
+
+struct kind {
+    uint8_t number;
+    size_t nine, three; /* how many it uses */
+};
+
+static const struct kind kinds[] = {
+    {ZANIKORY_KIND_EIGEN_2X2, 3, 0},
+    {ZANIKORY_KIND_EIGEN_3X3, 6, 0},
+    {ZANIKORY_KIND_SVD_2X2, 4, 0},
+    {ZANIKORY_KIND_SVD_3X3, 9, 0},
+    {ZANIKORY_KIND_CHOLESKY_2X2, 3, 0},
+    {ZANIKORY_KIND_CHOLESKY_3X3, 6, 0},
+    {ZANIKORY_KIND_FACTOR_AND_SOLVE_2X2, 3, 2},
+    {ZANIKORY_KIND_FACTOR_AND_SOLVE_3X3, 6, 3},
+};
+
+enum { KINDS = sizeof kinds / sizeof kinds[0], NUMBERS = 12 };
+
+struct request {
+    uint8_t bytes[ZANIKORY_REQUEST_SIZE];
+};
+
+/* A request of a kind that is answered with 0: its first numbers are those of a matrix that has a factor. */
+static struct request good(const struct kind *kind)
+{
+    static const double nine[9] = {4, 2, 5, 2, 3, 6, 1, 1, 1}, three[3] = {8, 10, 11};
+    struct request r = {{0xEF, 0xBE, 0xAD, 0xDE}};
+    r.bytes[ZANIKORY_REQUEST_KIND_AT] = kind->number;
+    memcpy(r.bytes + ZANIKORY_REQUEST_NINE_AT, nine, kind->nine * sizeof nine[0]);
+    memcpy(r.bytes + ZANIKORY_REQUEST_THREE_AT, three, kind->three * sizeof three[0]);
+    return r;
+}
+
+/* ---- a kind of call */
+
+struct tried {
+    const char *what;
+    unsigned calls, wrong;
+};
+
+static struct tried begin(const char *what)
+{
+    struct tried tried = {what, 0, 0};
+    return tried;
+}
+
+static int end(const struct tried *tried)
+{
+    printf("%-58s  %u\n", tried->what, tried->calls);
+    return tried->wrong != 0;
+}
+
+/* ---- a call, and what it must leave */
+
+struct expected {
+    uint8_t code;
+    size_t length; /* how many bytes of the answer are written */
+    uint8_t answer[ZANIKORY_ANSWER_SIZE];
+};
+
+static struct expected stays(void)
+{
+    struct expected e = {ZANIKORY_CODE_OUTPUT_LENGTH, 0, {0}};
+    return e;
+}
+
+static struct expected wrong_length(void)
+{
+    struct expected e = {ZANIKORY_CODE_INPUT_LENGTH, ZANIKORY_ANSWER_SIZE, {0}};
+    e.answer[ZANIKORY_ANSWER_CODE_AT] = ZANIKORY_CODE_INPUT_LENGTH;
+    return e;
+}
+
+/* The event number and the kind stand at the same places in both. */
+static struct expected refused(const struct request *r, uint8_t code)
+{
+    struct expected e = {code, ZANIKORY_ANSWER_SIZE, {0}};
+    memcpy(e.answer, r->bytes, ZANIKORY_REQUEST_RESERVED_AT);
+    e.answer[ZANIKORY_ANSWER_CODE_AT] = code;
+    return e;
+}
+
+/* Fills a room with bytes that differ from place to place and from call to call. */
+static void fill(uint8_t *room, unsigned turn)
+{
+    for (size_t i = 0; i < ROOM; i++)
+        room[i] = (uint8_t)(i * 37 + turn * 101 + 1);
+}
+
+static void hold(struct tried *tried, uint8_t code, const struct expected *e)
+{
+    int beside = memcmp(request_room, request_left, ROOM) != 0;
+    int answer = memcmp(answer_room, answer_left, ROOM) != 0;
+    tried->calls++;
+    if (code == e->code && !beside && !answer)
+        return;
+    tried->wrong++;
+    if (tried->wrong == 1)
+        printf("%s: call %u: code %d, expected %d%s%s\n", tried->what, tried->calls, code, e->code,
+               beside ? "; the request was written" : "",
+               answer ? "; the answer, or what lies beside it, is wrong" : "");
+}
+
+/* The call with the first bytes of a request, or with more than it has, from each language. The buffers
+   have another alignment each time. */
+static void call(struct tried *tried, const struct request *r, size_t request_length,
+                 size_t answer_length, const struct expected *e)
+{
+    static unsigned turn;
+    size_t request_at = GUARD + turn % 8, answer_at = GUARD + turn / 8 % 8;
+    uint8_t (*const entries[])(const uint8_t *, size_t, uint8_t *, size_t) = {zanikory_answer_record,
+                                                                              answer_record_from_cpp};
+    for (size_t i = 0; i < sizeof entries / sizeof entries[0]; i++) {
+        fill(request_room, turn);
+        fill(answer_room, turn + 1);
+        memcpy(request_room + request_at, r->bytes, sizeof r->bytes);
+        memcpy(request_left, request_room, ROOM);
+        memcpy(answer_left, answer_room, ROOM);
+        memcpy(answer_left + answer_at, e->answer, e->length);
+        uint8_t code = entries[i](request_room + request_at, request_length, answer_room + answer_at,
+                                  answer_length);
+        hold(tried, code, e);
+    }
+    turn++;
+}
+
+/* ---- the kinds of call */
+
+static int lengths(void)
+{
+    struct tried answers = begin("2: an answer of another length stays");
+    struct tried requests = begin("1: a request of another length");
+    struct request r = good(&kinds[0]);
+    struct expected two = stays(), one = wrong_length();
+    for (size_t length = 0; length <= 2 * ZANIKORY_ANSWER_SIZE; length++)
+        if (length != ZANIKORY_ANSWER_SIZE) {
+            call(&answers, &r, ZANIKORY_REQUEST_SIZE, length, &two);
+            call(&answers, &r, 0, length, &two);
+        }
+    for (size_t length = 0; length <= 2 * ZANIKORY_REQUEST_SIZE; length++)
+        if (length != ZANIKORY_REQUEST_SIZE)
+            call(&requests, &r, length, ZANIKORY_ANSWER_SIZE, &one);
+    return end(&answers) + end(&requests);
+}
+
+/* The whole example of the records' description: event 7, kind 1, numbers 2, 1, 2. */
+static int example(void)
+{
+    static const uint8_t head[8] = {7, 0, 0, 0, 1, 0, 0, 1};
+    static const uint64_t one = 0x3FF0000000000000u, three = 0x4008000000000000u;
+    static const uint64_t h = 0x3FE6A09E667F3BCDu, minus_h = 0xBFE6A09E667F3BCDu;
+    const uint64_t values[3] = {one, three, 0}, left[4] = {h, minus_h, h, h};
+    struct tried tried = begin("0: event 7, kind 1, numbers 2, 1, 2");
+    struct request r = {{7, 0, 0, 0, ZANIKORY_KIND_EIGEN_2X2}};
+    const double numbers[3] = {2, 1, 2};
+    struct expected e = {ZANIKORY_CODE_DONE, ZANIKORY_ANSWER_SIZE, {0}};
+    memcpy(r.bytes + ZANIKORY_REQUEST_NINE_AT, numbers, sizeof numbers);
+    memcpy(e.answer, head, sizeof head);
+    memcpy(e.answer + ZANIKORY_ANSWER_VALUES_AT, values, sizeof values);
+    memcpy(e.answer + ZANIKORY_ANSWER_LEFT_AT, left, sizeof left);
+    for (size_t alignments = 0; alignments < 64; alignments++)
+        call(&tried, &r, ZANIKORY_REQUEST_SIZE, ZANIKORY_ANSWER_SIZE, &e);
+    return end(&tried);
+}
+
+/* volatile: each is read when the program runs, so the compiler can work out nothing beforehand. */
+static const volatile uint64_t patterns[] = {
+    0x7FF8000000000000u, /* quiet NaN */
+    0xFFFC0000DEADBEEFu, /* quiet NaN, sign, payload */
+    0x7FF0000000000001u, /* signalling NaN */
+    0xFFF4000000C0FFEEu, /* signalling NaN, sign, payload */
+    0x7FF0000000000000u, /* +infinity */
+    0xFFF0000000000000u, /* -infinity */
+};
+
+/* Each pattern at each of the twelve places: 5 where the kind uses the number, and else 4. */
+static int not_finite(void)
+{
+    struct tried used = begin("5: NaNs of any bits and infinities where a number is used");
+    struct tried unused = begin("4: the same where none is");
+    for (size_t k = 0; k < KINDS; k++)
+        for (size_t p = 0; p < sizeof patterns / sizeof patterns[0]; p++)
+            for (size_t place = 0; place < NUMBERS; place++) {
+                int is_used = place < 9 ? place < kinds[k].nine : place - 9 < kinds[k].three;
+                struct request r = good(&kinds[k]);
+                uint64_t pattern = patterns[p];
+                memcpy(r.bytes + ZANIKORY_REQUEST_NINE_AT + place * 8, &pattern, sizeof pattern);
+                struct expected e =
+                    refused(&r, is_used ? ZANIKORY_CODE_INPUT_NOT_FINITE : ZANIKORY_CODE_RESERVED);
+                call(is_used ? &used : &unused, &r, ZANIKORY_REQUEST_SIZE, ZANIKORY_ANSWER_SIZE, &e);
+            }
+    return end(&used) + end(&unused);
+}
+
+/* Each constant of a kind is one that is answered, the same from both languages and at any address; every
+   other byte is none. */
+static int kind_bytes(void)
+{
+    struct tried known = begin("0: each kind"), unknown = begin("3: each other kind");
+    for (unsigned number = 0; number < 256; number++) {
+        int is_known = number >= kinds[0].number && number <= kinds[KINDS - 1].number;
+        struct request r = good(&kinds[is_known ? number - kinds[0].number : 0]);
+        r.bytes[ZANIKORY_REQUEST_KIND_AT] = (uint8_t)number;
+        struct expected e = refused(&r, ZANIKORY_CODE_UNKNOWN_KIND);
+        if (is_known) {
+            e.code = ZANIKORY_CODE_DONE;
+            zanikory_answer_record(r.bytes, sizeof r.bytes, e.answer, sizeof e.answer);
+        }
+        call(is_known ? &known : &unknown, &r, ZANIKORY_REQUEST_SIZE, ZANIKORY_ANSWER_SIZE, &e);
+    }
+    return end(&known) + end(&unknown);
+}
+
+int main(void)
+{
+    int wrong = lengths() + example() + kind_bytes() + not_finite();
+    printf("%d wrong\n", wrong);
+    return wrong != 0;
+}
