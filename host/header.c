@@ -233,9 +233,19 @@ static int kind_bytes(void)
     return end(&known) + end(&unknown);
 }
 
+/* A call of the other library, so that the program has both. */
+static int both_libraries(void)
+{
+    struct tried tried = begin("the root of 4, from the library on doubles");
+    volatile double four = 4;
+    tried.calls++;
+    tried.wrong += zanikory_root(four) != 2;
+    return end(&tried);
+}
+
 int main(void)
 {
-    int wrong = lengths() + example() + kind_bytes() + not_finite();
+    int wrong = lengths() + example() + kind_bytes() + not_finite() + both_libraries();
     printf("%d wrong\n", wrong);
     return wrong != 0;
 }

@@ -6,6 +6,5 @@ int *__errno_location(void);
 
 #define errno (*__errno_location())
 #define EINTR 4
-#define EIO 5
 
 #endif
