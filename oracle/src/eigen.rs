@@ -474,6 +474,13 @@ pub fn run(a: [f64; 6], mut show: impl FnMut(&DenseMatrixSym3<f64>, usize)) -> R
     }
 }
 
+impl Run {
+    /// Whether all that is handed back is finite, with the vectors or without.
+    pub fn is_finite(&self, vectors: bool) -> bool {
+        all_finite(&self.a.data) && (!vectors || all_finite(&self.v.data))
+    }
+}
+
 /// The answer's run where nothing is refused, its branches counted.
 fn answered(input: &[u64], vectors: bool, out: &mut [u64], hits: &mut Hits) -> Option<Run> {
     let given = numbers::<6>(input);
@@ -485,7 +492,7 @@ fn answered(input: &[u64], vectors: bool, out: &mut [u64], hits: &mut Hits) -> O
     }
     let end = run(given, |a, at| count_rotation(a, at, hits));
     same_as_plain(given, &end);
-    if !all_finite(&end.a.data) || vectors && !all_finite(&end.v.data) {
+    if !end.is_finite(vectors) {
         out[0] = ANSWER_NOT_FINITE;
         hits.hit(Eigen::Answer as usize);
         return None;
@@ -662,12 +669,24 @@ fn pair(random: &mut Random) -> [f64; 3] {
     }
 }
 
+/// The values and the vectors, where all of them are finite; the vectors are zeros where none are asked for.
+pub fn call2(given: [f64; 3], vectors: bool) -> Option<([f64; 2], [f64; 4])> {
+    let mut a = DenseMatrixSym2 { data: given };
+    let mut v = DenseMatrix2::zeros();
+    let values = if vectors {
+        a.eigen(&mut v)
+    } else {
+        a.eigvals()
+    };
+    (all_finite(&values) && all_finite(&v.data)).then_some((values, v.data))
+}
+
 fn answered2(
     input: &[u64],
     vectors: bool,
     out: &mut [u64],
     hits: &mut Hits,
-) -> Option<DenseMatrix2<f64>> {
+) -> Option<[f64; 4]> {
     let given = numbers::<3>(input);
     out.fill(0);
     if let Some(place) = first_not_finite(&given) {
@@ -677,18 +696,11 @@ fn answered2(
     }
     let [app, apq, aqq] = given;
     hits.hit(Eigen2::Tiny as usize + choice(apq, app, aqq) as usize);
-    let mut a = DenseMatrixSym2 { data: given };
-    let mut v = DenseMatrix2::zeros();
-    let values = if vectors {
-        a.eigen(&mut v)
-    } else {
-        a.eigvals()
-    };
-    if !all_finite(&values) || !all_finite(&v.data) {
+    let Some((values, v)) = call2(given, vectors) else {
         out[0] = ANSWER_NOT_FINITE;
         hits.hit(Eigen2::Answer as usize);
         return None;
-    }
+    };
     // as the crate has it: the first value is the first number of the diagonal less its share
     let (_, _, t) = compute_jacobi_rotation(apq, app, aqq);
     let (first, second) = (app - t * apq, aqq + t * apq);
@@ -705,7 +717,7 @@ fn answered2(
 
 fn with_vectors2(input: &[u64], out: &mut [u64], hits: &mut Hits) {
     if let Some(v) = answered2(input, true, out, hits) {
-        put(&mut out[4..], &v.data);
+        put(&mut out[4..], &v);
     }
 }
 

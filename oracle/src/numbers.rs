@@ -81,6 +81,12 @@ pub fn even(random: &mut Random) -> f64 {
     with_sign(random, size)
 }
 
+/// The sum in order, from -0 on. Rust's own starts with a zero whose sign is not the same in all its versions, and a seed shall give
+/// the same inputs everywhere.
+pub fn sum(numbers: impl Iterator<Item = f64>) -> f64 {
+    numbers.fold(-0.0, |sum, x| sum + x)
+}
+
 /// Fills the places with numbers of one kind, here and there a zero of either sign among them, or once more the number before.
 pub fn fill(random: &mut Random, places: &mut [f64]) {
     let kind = random.below(8);

@@ -1,6 +1,6 @@
 //! Matrices of a given shape: rotations, and symmetric ones of given values. Numbers stand by columns.
 
-use crate::numbers::even;
+use crate::numbers::{even, sum};
 use crate::random::Random;
 
 pub type Columns = [[f64; 3]; 3];
@@ -9,7 +9,7 @@ pub type Columns = [[f64; 3]; 3];
 pub fn rotation(random: &mut Random) -> Columns {
     let (q, norm) = loop {
         let q: [f64; 4] = std::array::from_fn(|_| even(random));
-        let norm = q.iter().map(|x| x * x).sum::<f64>();
+        let norm = sum(q.iter().map(|x| x * x));
         if (0.01..=1.0).contains(&norm) {
             break (q, norm);
         }
@@ -34,9 +34,14 @@ pub fn rotation(random: &mut Random) -> Columns {
     ]
 }
 
+/// The cosine and the sine of a turn in the plane, of the angle whose half has this tangent.
+pub fn turn(h: f64) -> (f64, f64) {
+    ((1.0 - h * h) / (1.0 + h * h), 2.0 * h / (1.0 + h * h))
+}
+
 /// The packed upper triangle of Q diag(values) Q'.
 pub fn with_values(q: &Columns, values: [f64; 3]) -> [f64; 6] {
-    let entry = |r: usize, c: usize| (0..3).map(|k| values[k] * q[k][r] * q[k][c]).sum();
+    let entry = |r: usize, c: usize| sum((0..3).map(|k| values[k] * q[k][r] * q[k][c]));
     [
         entry(0, 0),
         entry(0, 1),

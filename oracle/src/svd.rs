@@ -14,10 +14,10 @@ use crate::eigen::{
 use crate::float::{subnormal, SIGN};
 use crate::numbers::{
     about, all_finite, beside, even, finite, first_not_finite, numbers, power_of_two, put, spoil,
-    whole, with_sign, zero,
+    sum, whole, with_sign, zero,
 };
 use crate::random::Random;
-use crate::shapes::{rotation, Columns};
+use crate::shapes::{rotation, turn, Columns};
 use crate::subject::{branches, first, Hits, Subject};
 use std::cmp::Ordering;
 
@@ -226,7 +226,7 @@ fn matrix(random: &mut Random) -> (Svd, [f64; 9]) {
             a = a.map(|_| even(random));
             let (last, by) = (random.below(3) as usize, even(random));
             for r in 0..3 {
-                let others: f64 = (0..3).filter(|c| *c != last).map(|c| a[3 * c + r]).sum();
+                let others = sum((0..3).filter(|c| *c != last).map(|c| a[3 * c + r]));
                 a[3 * last + r] = by * others;
             }
             Svd::Singular
@@ -337,24 +337,31 @@ fn by_columns(columns: Columns) -> [f64; 9] {
 /// A turn about the vertical, then a tilt, each in steps whose cosine and sine are quotients of small whole numbers.
 fn geophone(random: &mut Random) -> [f64; 9] {
     let [(c, s), (d, t)] = [0; 2].map(|_| {
-        let h = whole(random, -40, 40) as f64 / 40.0;
-        ((1.0 - h * h) / (1.0 + h * h), 2.0 * h / (1.0 + h * h))
+        turn(whole(random, -40, 40) as f64 / 40.0)
     });
     [c, s, 0.0, -s * d, c * d, t, s * t, -c * t, d]
 }
 
 /// The end of a run.
-struct Run {
-    a: DenseMatrix3<f64>,
-    u: DenseMatrix3<f64>,
-    v: DenseMatrix3<f64>,
-    values: [f64; 3],
-    count: u64,
-    settled: bool,
+pub struct Run {
+    pub a: DenseMatrix3<f64>,
+    pub u: DenseMatrix3<f64>,
+    pub v: DenseMatrix3<f64>,
+    pub values: [f64; 3],
+    pub count: u64,
+    pub settled: bool,
+}
+
+impl Run {
+    pub fn is_finite(&self) -> bool {
+        [&self.a, &self.u, &self.v]
+            .iter()
+            .all(|m| all_finite(&m.data))
+    }
 }
 
 /// The run of `svd`, made of the crate's own steps, with its count. Shows the matrix before each rotation, and its largest pair.
-fn run(a: [f64; 9], mut show: impl FnMut(&DenseMatrix3<f64>, usize, usize)) -> Run {
+pub fn run(a: [f64; 9], mut show: impl FnMut(&DenseMatrix3<f64>, usize, usize)) -> Run {
     let mut a = DenseMatrix3 { data: a };
     let mut u = DenseMatrix3::zeros();
     let mut v = DenseMatrix3::zeros();
@@ -395,7 +402,7 @@ fn svd3(input: &[u64], out: &mut [u64], hits: &mut Hits) {
     }
     let end = run(given, |a, p, q| count_rotation(a, p, q, hits));
     same_as_plain(given, &end);
-    if !all_finite(&end.a.data) || !all_finite(&end.u.data) || !all_finite(&end.v.data) {
+    if !end.is_finite() {
         out[0] = ANSWER_NOT_FINITE;
         return hits.hit(Svd::Answer as usize);
     }
@@ -582,8 +589,7 @@ fn matrix2(random: &mut Random) -> [f64; 4] {
         }
         7 => {
             // a turn or a reflection
-            let h = even(random);
-            let (c, s) = ((1.0 - h * h) / (1.0 + h * h), 2.0 * h / (1.0 + h * h));
+            let (c, s) = turn(even(random));
             match random.bits(1) {
                 0 => [c, s, -s, c],
                 _ => [c, s, s, -c],
@@ -611,6 +617,16 @@ fn matrix2(random: &mut Random) -> [f64; 4] {
     }
 }
 
+/// The values, U and V, where all of them are finite.
+pub fn call2(given: [f64; 4]) -> Option<([f64; 2], [f64; 4], [f64; 4])> {
+    let mut a = DenseMatrix2 { data: given };
+    let mut u = DenseMatrix2::zeros();
+    let mut v = DenseMatrix2::zeros();
+    let values = a.svd(&mut u, &mut v);
+    let finite = all_finite(&values) && all_finite(&u.data) && all_finite(&v.data);
+    finite.then_some((values, u.data, v.data))
+}
+
 fn svd2(input: &[u64], out: &mut [u64], hits: &mut Hits) {
     let given = numbers::<4>(input);
     out.fill(0);
@@ -622,14 +638,10 @@ fn svd2(input: &[u64], out: &mut [u64], hits: &mut Hits) {
     hits.hit(Svd2::PolarNone as usize + size_kind(app, aqp, apq, aqq));
     let (_, _, s11, s12, s22) = compute_polar_2x2(app, aqp, apq, aqq);
     hits.hit(Svd2::Tiny as usize + choice(s12, s11, s22) as usize);
-    let mut a = DenseMatrix2 { data: given };
-    let mut u = DenseMatrix2::zeros();
-    let mut v = DenseMatrix2::zeros();
-    let values = a.svd(&mut u, &mut v);
-    if !all_finite(&values) || !all_finite(&u.data) || !all_finite(&v.data) {
+    let Some((values, u, v)) = call2(given) else {
         out[0] = ANSWER_NOT_FINITE;
         return hits.hit(Svd2::Answer as usize);
-    }
+    };
     let (_, _, _, _, d1, d2) = compute_two_sided_rotation(app, aqp, apq, aqq);
     let mut hit = |branch: Svd2| hits.hit(branch as usize);
     hit(match d1.abs().partial_cmp(&d2.abs()).expect("numbers") {
@@ -649,8 +661,8 @@ fn svd2(input: &[u64], out: &mut [u64], hits: &mut Hits) {
     out[0] = DONE;
     out[1] = 1;
     put(&mut out[2..], &values);
-    put(&mut out[4..], &u.data);
-    put(&mut out[8..], &v.data);
+    put(&mut out[4..], &u);
+    put(&mut out[8..], &v);
 }
 
 // ---- single steps, which take any floats and refuse none
