@@ -227,7 +227,7 @@ const LISTED: [[f64; 6]; 9] = [
 ];
 
 /// 2^k on the diagonal, m * 2^-j in two places beside it, and 0 in the third.
-const fn isotropic(k: u32, m: u64, j: u32) -> [f64; 6] {
+pub const fn isotropic(k: u32, m: u64, j: u32) -> [f64; 6] {
     let (d, beside) = ((1u64 << k) as f64, m as f64 / (1u64 << j) as f64);
     [d, beside, d, beside, 0.0, d]
 }
@@ -681,12 +681,7 @@ pub fn call2(given: [f64; 3], vectors: bool) -> Option<([f64; 2], [f64; 4])> {
     (all_finite(&values) && all_finite(&v.data)).then_some((values, v.data))
 }
 
-fn answered2(
-    input: &[u64],
-    vectors: bool,
-    out: &mut [u64],
-    hits: &mut Hits,
-) -> Option<[f64; 4]> {
+fn answered2(input: &[u64], vectors: bool, out: &mut [u64], hits: &mut Hits) -> Option<[f64; 4]> {
     let given = numbers::<3>(input);
     out.fill(0);
     if let Some(place) = first_not_finite(&given) {

@@ -60,9 +60,7 @@ fn moment_tensor(random: &mut Random) -> [f64; 6] {
         _ => SOURCES.map(|_| even(random)),
     };
     let moment = size(random, -14, 19);
-    let values = std::array::from_fn(|i| {
-        moment * sum((0..4).map(|k| weights[k] * SOURCES[k][i]))
-    });
+    let values = std::array::from_fn(|i| moment * sum((0..4).map(|k| weights[k] * SOURCES[k][i])));
     with_values(&rotation(random), values)
 }
 

@@ -1,10 +1,13 @@
 //! Which branches the requests of a file reach: of each kind's own tests, and of the definitions behind it.
 
+use crate::float::SIGN;
 use crate::kinds::Kind;
 use crate::numbers::number;
-use crate::record::{answer, Request, CODE_AT, COUNT_AT, REQUEST_BYTES};
+use crate::random::Random;
+use crate::record::{answer, Request, CODE_AT, COUNT_AT, NUMBERS_AT, REQUEST_BYTES};
+use crate::requests::of_its_subject;
 use crate::stream::read_record;
-use crate::subject::{Hits, Subject};
+use crate::subject::Hits;
 use std::io::{self, Read};
 
 /// The hits of one kind.
@@ -17,6 +20,8 @@ struct Reached {
     reserved: [u64; 3],
     unused: [u64; 12],
     not_finite: [u64; 12],
+    /// Of those that are solved, how many have a -0 in the solution.
+    minus_zero: u64,
 }
 
 /// Prints how often each branch was reached, and says whether each was that a record can reach. Each answer is also held to the
@@ -26,10 +31,9 @@ pub fn show(input: &mut impl Read) -> io::Result<bool> {
     let mut bytes = [0; REQUEST_BYTES];
     while read_record(input, &mut bytes)? == REQUEST_BYTES {
         let request = Request::of(&bytes);
-        if let Some(reached) = usize::from(request.kind).checked_sub(1) {
-            if let Some(reached) = kinds.get_mut(reached) {
-                reached.count(&request);
-            }
+        let place = usize::from(request.kind).wrapping_sub(1);
+        if let Some(reached) = kinds.get_mut(place) {
+            reached.count(&request);
         }
     }
     let missed: usize = kinds.iter().map(Reached::print).sum();
@@ -46,6 +50,7 @@ impl Reached {
             reserved: [0; 3],
             unused: [0; 12],
             not_finite: [0; 12],
+            minus_zero: 0,
         }
     }
 
@@ -78,10 +83,17 @@ impl Reached {
         let answer = answer(&request.bytes());
         let code = u64::from(answer[CODE_AT]);
         assert_eq!(code, right[0], "not {}'s code, of {input:X?}", subject.name);
+        let values = answer[NUMBERS_AT..].chunks_exact(8).take(3);
+        let minus_zero = SIGN.to_le_bytes();
+        self.minus_zero += u64::from(values.into_iter().any(|value| value == minus_zero));
         // the pivot's number, or the count of a 3x3 run; a 2x2 call has its mark there
         if subject.name != "eigen2" && subject.name != "svd2" {
             let count = u64::from(answer[COUNT_AT]);
-            assert_eq!(count, right[1], "not {}'s count, of {input:X?}", subject.name);
+            assert_eq!(
+                count, right[1],
+                "not {}'s count, of {input:X?}",
+                subject.name
+            );
         }
     }
 
@@ -104,12 +116,41 @@ impl Reached {
         }
         let subject = self.of.subject();
         for (branch, count) in subject.branches.iter().zip(&self.subject.0) {
-            if of_records(subject, branch) {
+            if of_records(branch) {
                 line(branch, *count);
             }
         }
+        if self.of.three > 0 {
+            line("0: -0 in the solution", self.minus_zero);
+        }
         missed
     }
+}
+
+/// Inputs of the kind's subject, each of which reaches a branch that those before it reached fewer than so many times. The search
+/// ends when each branch has so many, or after that many inputs in all: a branch that is then missing shows in `show`.
+pub fn reaching(kind: u8, times: u64) -> Vec<Request> {
+    const INPUTS: u64 = 1 << 18;
+    let mut random = Random::new(u64::from(kind));
+    let mut reached = Reached::new(kind);
+    let mut kept = Vec::new();
+    for _ in 0..INPUTS {
+        let request = of_its_subject(&mut random, kind, u64::MAX);
+        let before = reached.subject.0.clone();
+        reached.ask_subject(&request);
+        let after = reached.subject.0.iter();
+        if before.iter().zip(after).any(|(b, a)| a > b && *b < times) {
+            kept.push(request);
+        } else {
+            reached.subject.0 = before;
+        }
+        let branches = reached.of.subject().branches.iter();
+        let mut left = branches.zip(&reached.subject.0);
+        if left.all(|(branch, count)| *count >= times || !of_records(branch)) {
+            break;
+        }
+    }
+    kept
 }
 
 fn place(i: usize) -> String {
@@ -120,6 +161,6 @@ fn place(i: usize) -> String {
 }
 
 /// Whether a record can reach a subject's branch. It has no old factor, and what its generator counts are no branches.
-fn of_records(_: &Subject, branch: &str) -> bool {
+fn of_records(branch: &str) -> bool {
     !branch.contains("old factor") && !branch.starts_with("input: ")
 }

@@ -16,7 +16,7 @@ pub const COUNT_AT: usize = 6;
 pub const SETTLED_AT: usize = 7;
 
 /// The numbers of both start here.
-const NUMBERS_AT: usize = 8;
+pub const NUMBERS_AT: usize = 8;
 
 /// A request's parts. Its numbers are patterns, since an unused one must have no bit set.
 #[derive(Clone, Copy, Default)]
@@ -87,7 +87,11 @@ pub fn answer(request: &[u8; REQUEST_BYTES]) -> [u8; ANSWER_BYTES] {
             bytes[CODE_AT] = DONE as u8;
             bytes[COUNT_AT] = worked.count;
             bytes[SETTLED_AT] = u8::from(worked.settled);
-            let numbers = worked.values.iter().chain(&worked.left).chain(&worked.right);
+            let numbers = worked
+                .values
+                .iter()
+                .chain(&worked.left)
+                .chain(&worked.right);
             let places = bytes[NUMBERS_AT..].chunks_exact_mut(8);
             for (place, x) in places.zip(numbers) {
                 place.copy_from_slice(&x.to_bits().to_le_bytes());

@@ -116,13 +116,19 @@ fn set_unused(random: &mut Random, request: &mut Request) {
 /// A place that the kind does not use, counted through the nine and then the three.
 pub fn unused_place<'a>(of: &Kind, request: &'a mut Request, number: usize) -> &'a mut u64 {
     let (nine, three) = (&mut request.nine[of.nine..], &mut request.three[of.three..]);
-    nine.iter_mut().chain(three).nth(number).expect("an unused place")
+    nine.iter_mut()
+        .chain(three)
+        .nth(number)
+        .expect("an unused place")
 }
 
 /// A place that the kind uses, counted in the same way.
 pub fn used_place<'a>(of: &Kind, request: &'a mut Request, number: usize) -> &'a mut u64 {
     let (nine, three) = (&mut request.nine[..of.nine], &mut request.three[..of.three]);
-    nine.iter_mut().chain(three).nth(number).expect("a used place")
+    nine.iter_mut()
+        .chain(three)
+        .nth(number)
+        .expect("a used place")
 }
 
 /// A pattern with a bit set: also of a zero, and of what is no number.

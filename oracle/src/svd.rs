@@ -336,9 +336,7 @@ fn by_columns(columns: Columns) -> [f64; 9] {
 
 /// A turn about the vertical, then a tilt, each in steps whose cosine and sine are quotients of small whole numbers.
 fn geophone(random: &mut Random) -> [f64; 9] {
-    let [(c, s), (d, t)] = [0; 2].map(|_| {
-        turn(whole(random, -40, 40) as f64 / 40.0)
-    });
+    let [(c, s), (d, t)] = [0; 2].map(|_| turn(whole(random, -40, 40) as f64 / 40.0));
     [c, s, 0.0, -s * d, c * d, t, s * t, -c * t, d]
 }
 

@@ -1,11 +1,11 @@
 //! How often each kind was answered with each code, from a file of requests and one with their answers.
 
-use crate::codes::{ANSWER_NOT_FINITE, DONE, INPUT_LENGTH, INPUT_NOT_FINITE, KIND, NOT_ZERO, PIVOT};
+use crate::codes::{
+    ANSWER_NOT_FINITE, DONE, INPUT_LENGTH, INPUT_NOT_FINITE, KIND, NOT_ZERO, PIVOT,
+};
 use crate::eigen::MOST;
 use crate::kinds::KINDS;
-use crate::record::{
-    ANSWER_BYTES, CODE_AT, COUNT_AT, KIND_AT, REQUEST_BYTES, SETTLED_AT,
-};
+use crate::record::{ANSWER_BYTES, CODE_AT, COUNT_AT, KIND_AT, REQUEST_BYTES, SETTLED_AT};
 use crate::stream::read_record;
 use std::fs::File;
 use std::io::{self, BufReader};
@@ -52,6 +52,9 @@ fn pivots(row: usize) -> usize {
     }
 }
 
+/// So many faults are shown.
+const SHOWN: usize = 40;
+
 /// The kinds that count rotations.
 const COUNTED: [usize; 2] = [2, 4];
 
@@ -80,8 +83,11 @@ pub fn show(requests: &str, answers: &str) -> io::Result<bool> {
     table.print_cells();
     table.print_pivots();
     table.print_rotations();
-    for fault in &table.faults {
+    for fault in table.faults.iter().take(SHOWN) {
         println!("table: {fault}");
+    }
+    if table.faults.len() > SHOWN {
+        println!("table: {} faults in all", table.faults.len());
     }
     Ok(table.faults.is_empty())
 }
@@ -133,7 +139,9 @@ impl Table {
         };
         match counts.get_mut(count) {
             Some(counted) => *counted += 1,
-            None => self.faults.push(format!("kind {row}, code {code} with {count} in byte 6")),
+            None => self
+                .faults
+                .push(format!("kind {row}, code {code} with {count} in byte 6")),
         }
         if code == DONE {
             self.settled[row][usize::from(answer[SETTLED_AT] == 1)] += 1;
@@ -188,10 +196,10 @@ impl Table {
             let name = name(row);
             let [not, settled] = self.settled[row];
             let not = self.cell(format!("{name}, not settled"), not, counted);
-            println!("{name:<16}settled  {settled}  not settled  {not}");
             if !counted {
                 continue;
             }
+            println!("{name:<16}settled  {settled}  not settled  {not}");
             let mut line = format!("{name:<16}rotations");
             for (rotations, count) in self.rotations[row].into_iter().enumerate() {
                 let cell = self.cell(format!("{name}, {rotations} rotations"), count, true);
