@@ -1,6 +1,6 @@
 //! The requests that come first in every file: the scope's examples, and one by one what chance may leave out.
 
-use crate::eigen::{isotropic, LIMIT};
+use crate::eigen::isotropic;
 use crate::float::{HIDDEN, INFINITY, NAN, SIGN};
 use crate::kinds::Kind;
 use crate::numbers::power_of_two;
@@ -8,6 +8,7 @@ use crate::random::Random;
 use crate::reached::reaching;
 use crate::record::Request;
 use crate::requests::{of_its_subject, unused_place, used_place, with_words};
+use crate::rotations::LIMIT;
 
 /// Each branch of a kind's definition is reached at least so many times.
 const TIMES: u64 = 8;

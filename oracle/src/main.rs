@@ -18,6 +18,7 @@ mod reached;
 mod record;
 mod requests;
 mod root;
+mod rotations;
 mod search;
 mod shapes;
 mod stream;

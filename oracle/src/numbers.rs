@@ -133,6 +133,18 @@ pub fn fill_words(random: &mut Random, words: &mut [u64]) {
     spoil(random, words);
 }
 
+/// Any floats: now and then several that are not finite.
+pub fn any_words(random: &mut Random, words: &mut [u64]) {
+    fill_words(random, words);
+    if random.below(8) == 0 {
+        for word in words {
+            if random.below(3) == 0 {
+                *word = not_finite(random);
+            }
+        }
+    }
+}
+
 /// The place of the first number that is not finite.
 pub fn first_not_finite(numbers: &[f64]) -> Option<usize> {
     numbers.iter().position(|x| !x.is_finite())

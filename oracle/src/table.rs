@@ -3,9 +3,9 @@
 use crate::codes::{
     ANSWER_NOT_FINITE, DONE, INPUT_LENGTH, INPUT_NOT_FINITE, KIND, NOT_ZERO, PIVOT,
 };
-use crate::eigen::MOST;
 use crate::kinds::KINDS;
 use crate::record::{ANSWER_BYTES, CODE_AT, COUNT_AT, KIND_AT, REQUEST_BYTES, SETTLED_AT};
+use crate::rotations::MOST;
 use crate::stream::read_record;
 use std::fs::File;
 use std::io::{self, BufReader};
