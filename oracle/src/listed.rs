@@ -94,8 +94,8 @@ fn of_each_branch() -> Vec<Request> {
     all
 }
 
-/// From 2^14 on the diagonal up a small number beside it makes more rotations than 10, and each number of them up to 25 comes up
-/// here, settled at the end and not.
+/// A small number beside a level diagonal makes some rotations with 2^10 on it and, from 2^14 up, more than 10: each number of them
+/// up to 25 comes up here, settled at the end and not.
 fn nearly_isotropic() -> Vec<Request> {
     // with 2^k on the diagonal, m * 2^(k - sum) beside it
     const BESIDE: [(u64, u32); 11] = [
@@ -111,15 +111,14 @@ fn nearly_isotropic() -> Vec<Request> {
         (13, 58),
         (15, 58),
     ];
-    let mut all = Vec::new();
-    for k in 14..=23 {
-        for (m, sum) in BESIDE {
-            let a @ [d, b, ..] = isotropic(k, m, sum - k);
-            all.push(with_numbers(2, &a));
-            all.push(with_numbers(4, &[d, b, b, b, d, 0.0, b, 0.0, d]));
-        }
-    }
-    all
+    let high = (14..=23).flat_map(|k| BESIDE.map(|(m, sum)| isotropic(k, m, sum - k)));
+    let low = (36..=45).flat_map(|j| [1, 3, 5].map(|m| isotropic(10, m, j)));
+    let both = |a: [f64; 6]| {
+        let [d, b, ..] = a;
+        let square = [d, b, b, b, d, 0.0, b, 0.0, d];
+        [with_numbers(2, &a), with_numbers(4, &square)]
+    };
+    low.chain(high).flat_map(both).collect()
 }
 
 /// Zeros of all signs on the right side: the sign of a zero in the solution depends on each step to it.
