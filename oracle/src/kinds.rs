@@ -61,6 +61,11 @@ impl Kind {
         self.subject().words_in - self.nine - self.three
     }
 
+    /// Whether the number in this place is used, counted from 0 through the nine and then the three.
+    pub fn uses(&self, place: usize) -> bool {
+        place < self.nine || (9..9 + self.three).contains(&place)
+    }
+
     /// The answer to numbers of which the used ones are finite.
     pub fn answer(&self, nine: &[f64; 9], three: &[f64; 3]) -> Answer {
         (self.work)(nine, three)

@@ -56,7 +56,7 @@ impl Reached {
 
     fn count(&mut self, request: &Request) {
         let words: Vec<u64> = request.nine.into_iter().chain(request.three).collect();
-        let used = |i: usize| i < self.of.nine || (9..9 + self.of.three).contains(&i);
+        let used = |i: usize| self.of.uses(i);
         let unused: Vec<usize> = (0..12).filter(|i| !used(*i) && words[*i] != 0).collect();
         let reserved: Vec<usize> = (0..3).filter(|i| request.reserved[*i] != 0).collect();
         match (&reserved[..], &unused[..]) {
@@ -108,7 +108,7 @@ impl Reached {
             line(&format!("4: by byte {} alone", 5 + byte), *count);
         }
         for i in 0..12 {
-            if i < self.of.nine || (9..9 + self.of.three).contains(&i) {
+            if self.of.uses(i) {
                 line(&format!("5: by {} alone", place(i)), self.not_finite[i]);
             } else {
                 line(&format!("4: by {} alone", place(i)), self.unused[i]);
