@@ -6,7 +6,7 @@ use crate::float::{bits, listed, SIGN};
 use crate::lent::{self, Wants};
 use crate::numbers::{
     about, all_finite, even, fill, fill_words, finite, first_not_finite, not_finite, number,
-    numbers, power_of_two, put, spoil, whole, zero,
+    numbers, power_of_two, put, spoil, sum, whole, zero,
 };
 use crate::random::Random;
 use crate::subject::{branches, first, Hits, Subject};
@@ -98,10 +98,10 @@ const LISTED3: [[f64; 6]; 6] = [
     [SMALLEST, 0.0, 1.0, LARGE, 0.0, 1.0],
 ];
 
-type Sym<const S: usize> = DenseMatrixSymN<S, f64>;
+pub type Sym<const S: usize> = DenseMatrixSymN<S, f64>;
 
 /// What the crate names by the size.
-trait Size {
+pub trait Size {
     fn factor(&mut self, a: &Self) -> Result<(), DenseFactorizationError>;
     fn solve(&self, x: &mut [f64], b: &[f64]);
 }
@@ -147,7 +147,7 @@ fn matrix(random: &mut Random, places: &mut [f64]) -> Factor {
             let mut m = vectors(random);
             let noise = power_of_two(whole(random, -56, -1));
             for row in &mut m {
-                row[n - 1] = row[..n - 1].iter().sum::<f64>() + noise * even(random);
+                row[n - 1] = sum(row[..n - 1].iter().copied()) + noise * even(random);
             }
             products(&m, n, places);
             scale(random, places);
@@ -213,7 +213,7 @@ fn products(m: &[[f64; 3]; 3], n: usize, places: &mut [f64]) {
     let mut at = 0;
     for c in 0..n {
         for r in 0..=c {
-            places[at] = (0..n).map(|k| m[k][r] * m[k][c]).sum();
+            places[at] = sum((0..n).map(|k| m[k][r] * m[k][c]));
             at += 1;
         }
     }
@@ -288,32 +288,36 @@ fn factor_input<const S: usize>(
     spoil(random, a);
 }
 
+/// What a factor's call gives: its code, the number of a refused pivot, and what then stands where the old factor stood.
+pub fn factored<const S: usize>(old: &Sym<S>, a: &Sym<S>) -> (u64, u64, Sym<S>)
+where
+    Sym<S>: Size,
+{
+    if !all_finite(&a.data) {
+        return (INPUT_NOT_FINITE, 0, old.clone());
+    }
+    let mut l = old.clone();
+    match l.factor(a) {
+        Err(DenseFactorizationError::Cholesky(k)) => (PIVOT, k as u64, l),
+        Ok(()) if all_finite(&l.data) => (DONE, 0, l),
+        Ok(()) => (ANSWER_NOT_FINITE, 0, old.clone()),
+    }
+}
+
 fn factor<const S: usize>(input: &[u64], out: &mut [u64], hits: &mut Hits)
 where
     Sym<S>: Size,
 {
     let old = symmetric::<S>(input);
     let a = symmetric::<S>(&input[S..]);
-    let mut l = old.clone();
-    let (code, pivot) = if !all_finite(&a.data) {
-        (INPUT_NOT_FINITE, 0)
-    } else {
-        match l.factor(&a) {
-            Err(DenseFactorizationError::Cholesky(k)) => (PIVOT, k),
-            Ok(()) if all_finite(&l.data) => (DONE, 0),
-            Ok(()) => (ANSWER_NOT_FINITE, 0),
-        }
-    };
-    if code == INPUT_NOT_FINITE || code == ANSWER_NOT_FINITE {
-        l = old.clone();
-    }
+    let (code, pivot, l) = factored(&old, &a);
     out[0] = code;
-    out[1] = pivot as u64;
+    out[1] = pivot;
     put(&mut out[2..], &l.data);
     count_factor(&old.data, &a.data, code, pivot, &l.data, hits);
 }
 
-fn count_factor(old: &[f64], a: &[f64], code: u64, pivot: i32, l: &[f64], hits: &mut Hits) {
+fn count_factor(old: &[f64], a: &[f64], code: u64, pivot: u64, l: &[f64], hits: &mut Hits) {
     let mut hit = |branch: Factor| hits.hit(branch as usize);
     let spoilt = old.iter().any(|x| x.is_nan());
     match code {
@@ -438,41 +442,53 @@ fn solved_input<const S: usize>(
     spoil(random, words);
 }
 
+/// The factor and the solution, or the code and the number of a refused pivot.
+pub fn solved<const S: usize, const N: usize>(
+    a: &Sym<S>,
+    b: &[f64; N],
+) -> Result<(Sym<S>, [f64; N]), (u64, u64)>
+where
+    Sym<S>: Size,
+{
+    if !all_finite(b) {
+        return Err((INPUT_NOT_FINITE, 0));
+    }
+    let (code, pivot, l) = factored(&Sym::<S>::zeros(), a);
+    if code != DONE {
+        return Err((code, pivot));
+    }
+    let mut x = [0.0; N];
+    l.solve(&mut x, b);
+    if all_finite(&x) {
+        Ok((l, x))
+    } else {
+        Err((ANSWER_NOT_FINITE, 0))
+    }
+}
+
 fn factor_and_solve<const S: usize, const N: usize>(input: &[u64], out: &mut [u64], hits: &mut Hits)
 where
     Sym<S>: Size,
 {
-    let mut hit = |branch: Solved| hits.hit(branch as usize);
     let a = symmetric::<S>(input);
-    let b = numbers::<N>(&input[S..]);
+    let answer = solved(&a, &numbers::<N>(&input[S..]));
     out.fill(0);
-    if !all_finite(&a.data) {
-        out[0] = INPUT_NOT_FINITE;
-        return hit(Solved::Matrix);
+    let branch = match &answer {
+        Ok(_) => Solved::Done,
+        Err((INPUT_NOT_FINITE, _)) if all_finite(&a.data) => Solved::Side,
+        Err((INPUT_NOT_FINITE, _)) => Solved::Matrix,
+        Err((PIVOT, k)) => [Solved::Pivot1, Solved::Pivot2, Solved::Pivot3][*k as usize - 1],
+        Err(_) if factored(&Sym::<S>::zeros(), &a).0 == DONE => Solved::Solution,
+        Err(_) => Solved::Factor,
+    };
+    hits.hit(branch as usize);
+    match answer {
+        Ok((l, x)) => {
+            put(&mut out[2..], &l.data);
+            put(&mut out[2 + S..], &x);
+        }
+        Err((code, pivot)) => [out[0], out[1]] = [code, pivot],
     }
-    if !all_finite(&b) {
-        out[0] = INPUT_NOT_FINITE;
-        return hit(Solved::Side);
-    }
-    let mut l = Sym::<S>::zeros();
-    if let Err(DenseFactorizationError::Cholesky(k)) = l.factor(&a) {
-        out[0] = PIVOT;
-        out[1] = k as u64;
-        return hit([Solved::Pivot1, Solved::Pivot2, Solved::Pivot3][k as usize - 1]);
-    }
-    let mut x = [0.0; N];
-    l.solve(&mut x, &b);
-    if !all_finite(&l.data) || !all_finite(&x) {
-        out[0] = ANSWER_NOT_FINITE;
-        return hit(if all_finite(&l.data) {
-            Solved::Solution
-        } else {
-            Solved::Factor
-        });
-    }
-    put(&mut out[2..], &l.data);
-    put(&mut out[2 + S..], &x);
-    hit(Solved::Done);
 }
 
 // ---- the pivot step, which takes any float: a pivot, its number; code, number of the refused one, root

@@ -3,6 +3,8 @@
 pub const DONE: u64 = 0;
 pub const INPUT_LENGTH: u64 = 1;
 pub const OUTPUT_LENGTH: u64 = 2;
+pub const KIND: u64 = 3;
+pub const NOT_ZERO: u64 = 4;
 pub const INPUT_NOT_FINITE: u64 = 5;
 pub const PIVOT: u64 = 6;
 pub const ANSWER_NOT_FINITE: u64 = 7;

@@ -10,7 +10,7 @@ use std::thread;
 const SHOWN: u64 = 10;
 
 /// Prints the counts and says whether all is well: no difference, and each branch hit.
-pub fn run(subject: &'static Subject, count: u64, seed: u64, probe: &[String]) -> io::Result<bool> {
+pub fn run(subject: &'static Subject, count: u64, seed: u64, probe: &[&str]) -> io::Result<bool> {
     let mut child = start(probe)?;
     let input = child.stdin.take().expect("a pipe");
     let output = child.stdout.take().expect("a pipe");
@@ -47,8 +47,8 @@ pub fn survey(subject: &Subject, count: u64, seed: u64) -> bool {
     show(subject, &hits) == 0
 }
 
-fn start(probe: &[String]) -> io::Result<Child> {
-    Command::new(&probe[0])
+fn start(probe: &[&str]) -> io::Result<Child> {
+    Command::new(probe[0])
         .args(&probe[1..])
         .stdin(Stdio::piped())
         .stdout(Stdio::piped())

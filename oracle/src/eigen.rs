@@ -6,13 +6,19 @@ use crate::algebra::dense::fixed::dense3x3::eigen::{
 };
 use crate::algebra::{DenseMatrix2, DenseMatrix3, DenseMatrixSym2, DenseMatrixSym3};
 use crate::codes::{ANSWER_NOT_FINITE, DONE, INPUT_NOT_FINITE};
-use crate::float::subnormal;
 use crate::numbers::{
-    about, all_finite, beside, even, fill_words, finite, first_not_finite, not_finite, numbers,
-    power_of_two, put, spoil, whole, with_sign, zero,
+    about, all_finite, any_words, beside, even, finite, first_not_finite, numbers, power_of_two,
+    put, spoil, whole, with_sign, zero,
 };
 use crate::random::Random;
-use crate::shapes::{rotation, with_values};
+use crate::rotations::{
+    a_pair, choice, count_length, count_order, count_pair, exchanges, pair_of, Applied, Largest,
+    LIMIT, MOST, PAIRS,
+};
+use crate::shapes::{
+    any_exponents, any_subnormal, evenly, isotropic_parts, one_exponent, rotation, some_subnormal,
+    whole_numbers, with_values, zeros,
+};
 use crate::subject::{branches, Hits, Subject};
 use std::cmp::Ordering;
 
@@ -102,63 +108,6 @@ pub const SUBJECTS: &[Subject] = &[
     },
 ];
 
-/// A number beside the diagonal that is under this is settled: 2^-44.
-pub const LIMIT: f64 = 256.0 * f64::EPSILON;
-
-/// So many rotations are made at most.
-pub const MOST: u64 = 25;
-
-/// The rows and columns of the pairs, by the numbers that the probe has for them.
-pub const PAIRS: [(u64, usize, usize); 3] = [(12, 0, 1), (13, 0, 2), (23, 1, 2)];
-
-// ---- the choice of a rotation
-
-/// The ways in which a rotation is chosen, in the order of the branches that count them. A zero beside the diagonal comes last,
-/// since a 3x3 run meets none.
-#[derive(Clone, Copy)]
-pub enum Choice {
-    Tiny,
-    Level,
-    Theta,
-    Far,
-    Infinite,
-    Nan,
-    Zero,
-}
-
-pub fn choice(apq: f64, app: f64, aqq: f64) -> Choice {
-    let difference = aqq - app;
-    let (p, q) = (app.abs(), aqq.abs());
-    let d = if p > q { p } else { q };
-    let theta = difference / (2.0 * apq);
-    if apq == 0.0 {
-        Choice::Zero
-    } else if d < f64::EPSILON {
-        Choice::Tiny
-    } else if difference.abs() < f64::EPSILON * d {
-        Choice::Level
-    } else if theta.is_nan() {
-        Choice::Nan
-    } else if theta.is_infinite() {
-        Choice::Infinite
-    } else if (theta * theta).is_infinite() {
-        Choice::Far
-    } else {
-        Choice::Theta
-    }
-}
-
-/// Which of an order's three comparisons exchange: 1 with 2, then 1 with 3, then 2 with 3.
-pub fn exchanges(mut values: [f64; 3], exchange: fn(&f64, &f64) -> bool) -> [bool; 3] {
-    PAIRS.map(|(_, p, q)| {
-        let now = exchange(&values[p], &values[q]);
-        if now {
-            values.swap(p, q);
-        }
-        now
-    })
-}
-
 // ---- 3x3: the matrix; code, count, settled, values, vectors, worked matrix
 
 branches!(pub Eigen {
@@ -227,7 +176,7 @@ const LISTED: [[f64; 6]; 9] = [
 ];
 
 /// 2^k on the diagonal, m * 2^-j in two places beside it, and 0 in the third.
-const fn isotropic(k: u32, m: u64, j: u32) -> [f64; 6] {
+pub const fn isotropic(k: u32, m: u64, j: u32) -> [f64; 6] {
     let (d, beside) = ((1u64 << k) as f64, m as f64 / (1u64 << j) as f64);
     [d, beside, d, beside, 0.0, d]
 }
@@ -286,132 +235,107 @@ fn input(random: &mut Random, number: u64, words: &mut [u64], hits: &mut Hits) {
         return words.copy_from_slice(found);
     }
     let (kind, matrix) = matrix(random);
-    hits.hit(kind as usize);
+    hits.hit(Eigen::AnyExponents as usize + kind);
     put(words, &matrix);
     spoil(random, words);
 }
 
-/// A matrix, packed, with its kind.
-pub fn matrix(random: &mut Random) -> (Eigen, [f64; 6]) {
-    let mut a = [0.0; 6];
-    let kind = match random.below(16) {
-        0 => {
-            a = a.map(|_| finite(random));
-            Eigen::AnyExponents
-        }
-        1 => {
-            let e = whole(random, -1074, 1015);
-            a = a.map(|_| {
-                let e = e + whole(random, 0, 8);
-                about(random, e)
-            });
-            Eigen::OneExponent
-        }
-        2 => {
-            let scale = power_of_two(whole(random, -60, 60));
-            a = a.map(|_| scale * even(random));
-            Eigen::Even
-        }
-        3 => {
-            a = a.map(|_| whole(random, -4, 4) as f64);
-            Eigen::Whole
-        }
-        4 => {
-            // some of them, so that there is something to rotate too
-            a = a.map(|_| match random.below(3) {
-                0 => even(random),
-                _ => {
-                    let size = f64::from_bits(subnormal(random));
-                    with_sign(random, size)
-                }
-            });
-            Eigen::Subnormal
-        }
-        5 => {
-            let scale = power_of_two(whole(random, -50, 4));
-            let diagonal = even(random);
-            a = a.map(|_| scale * even(random));
-            set_diagonal(&mut a, [diagonal; 3]);
-            Eigen::Equal
-        }
-        6 => {
-            let scale = power_of_two(whole(random, -50, 4));
-            let about = even(random).abs();
-            a = a.map(|_| scale * even(random));
-            let diagonal = [0; 3].map(|_| beside(random, about, 4));
-            set_diagonal(&mut a, diagonal);
-            Eigen::NearlyEqual
-        }
-        7 => {
-            a = a.map(|_| near_power(random, -44));
-            let diagonal = [0; 3].map(|_| even(random));
-            set_diagonal(&mut a, diagonal);
-            Eigen::AboutLimit
-        }
-        8 => {
-            let e = whole(random, -43, 4);
-            a = a.map(|_| about(random, e));
-            let diagonal = [0; 3].map(|_| near_power(random, -52));
-            set_diagonal(&mut a, diagonal);
-            Eigen::AboutEpsilon
-        }
-        9 => {
-            a = a.map(|_| {
-                let e = whole(random, 1018, 1023);
-                about(random, e)
-            });
-            Eigen::Huge
-        }
-        10 => {
-            a = a.map(|_| match random.below(3) {
-                0 => whole(random, -2, 2) as f64,
-                _ => zero(random),
-            });
-            Eigen::Zeros
-        }
-        11 => {
-            let moment = moment(random);
-            let q = rotation(random);
-            a = with_values(&q, [moment, 0.0, -moment]);
-            Eigen::DoubleCouple
-        }
-        12 => {
-            let moment = moment(random);
-            let q = rotation(random);
-            a = with_values(&q, [2.0 * moment, -moment, -moment]);
-            Eigen::Clvd
-        }
-        13 => {
-            let size = power_of_two(whole(random, 0, 40)) * (1.0 + even(random).abs());
-            let scale = power_of_two(whole(random, -44, -8));
-            a = a.map(|_| scale * even(random));
-            let diagonal = [0; 3].map(|_| beside(random, size, 1));
-            set_diagonal(&mut a, diagonal);
-            Eigen::NearlyIsotropic
-        }
-        14 => {
-            let size = even(random);
-            a = a.map(|_| match random.below(6) {
-                0 => even(random),
-                _ => with_sign(random, size),
-            });
-            Eigen::Ties
-        }
-        _ => {
-            let e = whole(random, 440, 1023);
-            a = a.map(|_| about(random, e));
-            for i in [1, 3, 4] {
-                let e = whole(random, -44, 20);
-                a[i] = about(random, e);
-            }
-            Eigen::Apart
-        }
-    };
-    (kind, a)
+/// The kinds of matrices, in the order of the branches that count them.
+const KINDS: [fn(&mut Random) -> [f64; 6]; 16] = [
+    any_exponents,
+    one_exponent,
+    evenly,
+    whole_numbers,
+    some_subnormal,
+    equal_diagonal,
+    nearly_equal_diagonal,
+    about_limit,
+    about_epsilon,
+    huge,
+    zeros,
+    double_couple,
+    linear_vector_dipole,
+    nearly_isotropic,
+    ties,
+    diagonal_far_apart,
+];
+
+/// A matrix, packed, with the place of its kind.
+pub fn matrix(random: &mut Random) -> (usize, [f64; 6]) {
+    let kind = random.below(KINDS.len() as u64) as usize;
+    (kind, KINDS[kind](random))
 }
 
-fn set_diagonal(a: &mut [f64; 6], diagonal: [f64; 3]) {
+fn equal_diagonal(random: &mut Random) -> [f64; 6] {
+    let scale = power_of_two(whole(random, -50, 4));
+    let diagonal = even(random);
+    let beside = [0; 6].map(|_| scale * even(random));
+    with_diagonal(beside, [diagonal; 3])
+}
+
+fn nearly_equal_diagonal(random: &mut Random) -> [f64; 6] {
+    let scale = power_of_two(whole(random, -50, 4));
+    let about = even(random).abs();
+    let a = [0; 6].map(|_| scale * even(random));
+    with_diagonal(a, [0; 3].map(|_| beside(random, about, 4)))
+}
+
+fn about_limit(random: &mut Random) -> [f64; 6] {
+    let beside = [0; 6].map(|_| near_power(random, -44));
+    with_diagonal(beside, [0; 3].map(|_| even(random)))
+}
+
+fn about_epsilon(random: &mut Random) -> [f64; 6] {
+    let e = whole(random, -43, 4);
+    let beside = [0; 6].map(|_| about(random, e));
+    with_diagonal(beside, [0; 3].map(|_| near_power(random, -52)))
+}
+
+fn huge(random: &mut Random) -> [f64; 6] {
+    [0; 6].map(|_| {
+        let e = whole(random, 1018, 1023);
+        about(random, e)
+    })
+}
+
+fn double_couple(random: &mut Random) -> [f64; 6] {
+    let moment = moment(random);
+    let q = rotation(random);
+    with_values(&q, [moment, 0.0, -moment])
+}
+
+fn linear_vector_dipole(random: &mut Random) -> [f64; 6] {
+    let moment = moment(random);
+    let q = rotation(random);
+    with_values(&q, [2.0 * moment, -moment, -moment])
+}
+
+fn nearly_isotropic(random: &mut Random) -> [f64; 6] {
+    let (a, diagonal) = isotropic_parts(random);
+    with_diagonal(a, diagonal)
+}
+
+fn ties(random: &mut Random) -> [f64; 6] {
+    let size = even(random);
+    [0; 6].map(|_| match random.below(6) {
+        0 => even(random),
+        _ => with_sign(random, size),
+    })
+}
+
+fn diagonal_far_apart(random: &mut Random) -> [f64; 6] {
+    let e = whole(random, 440, 1023);
+    let mut a = [0; 6].map(|_| about(random, e));
+    for i in [1, 3, 4] {
+        let e = whole(random, -44, 20);
+        a[i] = about(random, e);
+    }
+    a
+}
+
+fn with_diagonal(mut a: [f64; 6], diagonal: [f64; 3]) -> [f64; 6] {
     [a[0], a[2], a[5]] = diagonal;
+    a
 }
 
 /// A number within a factor of four of 2^e, or next to it.
@@ -474,6 +398,13 @@ pub fn run(a: [f64; 6], mut show: impl FnMut(&DenseMatrixSym3<f64>, usize)) -> R
     }
 }
 
+impl Run {
+    /// Whether all that is handed back is finite, with the vectors or without.
+    pub fn is_finite(&self, vectors: bool) -> bool {
+        all_finite(&self.a.data) && (!vectors || all_finite(&self.v.data))
+    }
+}
+
 /// The answer's run where nothing is refused, its branches counted.
 fn answered(input: &[u64], vectors: bool, out: &mut [u64], hits: &mut Hits) -> Option<Run> {
     let given = numbers::<6>(input);
@@ -485,7 +416,7 @@ fn answered(input: &[u64], vectors: bool, out: &mut [u64], hits: &mut Hits) -> O
     }
     let end = run(given, |a, at| count_rotation(a, at, hits));
     same_as_plain(given, &end);
-    if !all_finite(&end.a.data) || vectors && !all_finite(&end.v.data) {
+    if !end.is_finite(vectors) {
         out[0] = ANSWER_NOT_FINITE;
         hits.hit(Eigen::Answer as usize);
         return None;
@@ -533,45 +464,17 @@ fn same_as_plain(given: [f64; 6], end: &Run) {
 fn count_rotation(a: &DenseMatrixSym3<f64>, at: usize, hits: &mut Hits) {
     let beside = [1, 3, 4];
     let pair = beside.iter().position(|i| *i == at).expect("a pair");
-    hits.hit(Eigen::Pair12 as usize + pair);
-    match alike(beside.map(|i| a.data[i].abs()), a.data[at].abs()) {
-        2 => hits.hit(Eigen::TwoLargest as usize),
-        3 => hits.hit(Eigen::AllLargest as usize),
-        _ => {}
-    }
+    let sizes = beside.map(|i| a.data[i].abs());
+    count_pair(Eigen::Pair12 as usize, pair, sizes, a.data[at].abs(), hits);
     let (apq, app, aqq) = get_rotation_elements(a, at);
     hits.hit(Eigen::Tiny as usize + choice(apq, app, aqq) as usize);
 }
 
-/// How many of the sizes are the largest.
-pub fn alike(sizes: [f64; 3], largest: f64) -> usize {
-    sizes.iter().filter(|size| **size == largest).count()
-}
-
 fn count_end(end: &Run, hits: &mut Hits) {
-    let mut hit = |branch: Eigen| hits.hit(branch as usize);
-    hit(Eigen::Done);
-    hit(match (end.count, end.settled) {
-        (0, _) => Eigen::Rotations0,
-        (1, _) => Eigen::Rotations1,
-        (2..=12, _) => Eigen::Rotations12,
-        (MOST, true) => Eigen::Settled25,
-        (MOST, false) => Eigen::Unsettled25,
-        _ => Eigen::Rotations24,
-    });
-    if end.values[0] == end.values[1] || end.values[1] == end.values[2] {
-        hit(Eigen::Alike);
-    }
+    hits.hit(Eigen::Done as usize);
+    count_length(Eigen::Rotations0 as usize, end.count, end.settled, hits);
     let diagonal = [end.a.data[0], end.a.data[2], end.a.data[5]];
-    let exchanged = exchanges(diagonal, PartialOrd::gt);
-    if exchanged == [false; 3] {
-        hit(Eigen::NoExchange);
-    }
-    for i in 0..3 {
-        if exchanged[i] {
-            hits.hit(Eigen::Exchange12 as usize + i);
-        }
-    }
+    count_order(Eigen::NoExchange as usize, diagonal, PartialOrd::gt, hits);
 }
 
 // ---- 2x2: the matrix; code, settled, values, vectors
@@ -624,16 +527,13 @@ fn pair(random: &mut Random) -> [f64; 3] {
     let mut a = [0.0; 3];
     let e = whole(random, -1074, 1015);
     match random.below(10) {
-        0 => a.map(|_| finite(random)),
+        0 => any_exponents(random),
         1 => a.map(|_| {
             let e = e + whole(random, 0, 8);
             about(random, e)
         }),
-        2 => a.map(|_| whole(random, -4, 4) as f64),
-        3 => a.map(|_| {
-            let size = f64::from_bits(subnormal(random));
-            with_sign(random, size)
-        }),
+        2 => whole_numbers(random),
+        3 => a.map(|_| any_subnormal(random)),
         4 => a.map(|_| zero(random)),
         5 => a.map(|_| {
             let e = whole(random, 1018, 1023);
@@ -662,12 +562,19 @@ fn pair(random: &mut Random) -> [f64; 3] {
     }
 }
 
-fn answered2(
-    input: &[u64],
-    vectors: bool,
-    out: &mut [u64],
-    hits: &mut Hits,
-) -> Option<DenseMatrix2<f64>> {
+/// The values and the vectors, where all of them are finite; the vectors are zeros where none are asked for.
+pub fn call2(given: [f64; 3], vectors: bool) -> Option<([f64; 2], [f64; 4])> {
+    let mut a = DenseMatrixSym2 { data: given };
+    let mut v = DenseMatrix2::zeros();
+    let values = if vectors {
+        a.eigen(&mut v)
+    } else {
+        a.eigvals()
+    };
+    (all_finite(&values) && all_finite(&v.data)).then_some((values, v.data))
+}
+
+fn answered2(input: &[u64], vectors: bool, out: &mut [u64], hits: &mut Hits) -> Option<[f64; 4]> {
     let given = numbers::<3>(input);
     out.fill(0);
     if let Some(place) = first_not_finite(&given) {
@@ -677,18 +584,11 @@ fn answered2(
     }
     let [app, apq, aqq] = given;
     hits.hit(Eigen2::Tiny as usize + choice(apq, app, aqq) as usize);
-    let mut a = DenseMatrixSym2 { data: given };
-    let mut v = DenseMatrix2::zeros();
-    let values = if vectors {
-        a.eigen(&mut v)
-    } else {
-        a.eigvals()
-    };
-    if !all_finite(&values) || !all_finite(&v.data) {
+    let Some((values, v)) = call2(given, vectors) else {
         out[0] = ANSWER_NOT_FINITE;
         hits.hit(Eigen2::Answer as usize);
         return None;
-    }
+    };
     // as the crate has it: the first value is the first number of the diagonal less its share
     let (_, _, t) = compute_jacobi_rotation(apq, app, aqq);
     let (first, second) = (app - t * apq, aqq + t * apq);
@@ -705,7 +605,7 @@ fn answered2(
 
 fn with_vectors2(input: &[u64], out: &mut [u64], hits: &mut Hits) {
     if let Some(v) = answered2(input, true, out, hits) {
-        put(&mut out[4..], &v.data);
+        put(&mut out[4..], &v);
     }
 }
 
@@ -714,29 +614,6 @@ fn without_vectors2(input: &[u64], out: &mut [u64], hits: &mut Hits) {
 }
 
 // ---- single steps, which take any floats and refuse none
-
-/// Any floats: now and then several that are not finite.
-pub fn any_words(random: &mut Random, words: &mut [u64]) {
-    fill_words(random, words);
-    if random.below(8) == 0 {
-        for word in words {
-            if random.below(3) == 0 {
-                *word = not_finite(random);
-            }
-        }
-    }
-}
-
-pub fn a_pair(random: &mut Random) -> (u64, usize, usize) {
-    PAIRS[random.below(3) as usize]
-}
-
-/// The rows and columns of the pair with a number.
-pub fn pair_of(number: u64) -> (usize, usize) {
-    let found = PAIRS.into_iter().find(|pair| pair.0 == number);
-    let (_, p, q) = found.expect("a pair");
-    (p, q)
-}
 
 // beside the diagonal, and the two on it; cosine, sine, tangent
 branches!(Chosen {
@@ -769,37 +646,6 @@ fn chosen(input: &[u64], out: &mut [u64], hits: &mut Hits) {
 }
 
 // the matrix; the pair, its size
-branches!(pub Largest {
-    Pair12 = "pair 12",
-    Pair13 = "pair 13",
-    Pair23 = "pair 23",
-    Two = "two the largest",
-    All = "all three the largest",
-    Nan12 = "NaN in the pair 12",
-    Nan13 = "NaN in the pair 13",
-    Nan23 = "NaN in the pair 23",
-    Infinite = "infinite",
-});
-
-impl Largest {
-    pub fn count(pair: usize, sizes: [f64; 3], largest: f64, hits: &mut Hits) {
-        hits.hit(Self::Pair12 as usize + pair);
-        match alike(sizes, largest) {
-            2 => hits.hit(Self::Two as usize),
-            3 => hits.hit(Self::All as usize),
-            _ => {}
-        }
-        for (i, size) in sizes.into_iter().enumerate() {
-            if size.is_nan() {
-                hits.hit(Self::Nan12 as usize + i);
-            }
-        }
-        if largest.is_infinite() {
-            hits.hit(Self::Infinite as usize);
-        }
-    }
-}
-
 fn largest(input: &[u64], out: &mut [u64], hits: &mut Hits) {
     let a = DenseMatrixSym3 {
         data: numbers(input),
@@ -813,27 +659,6 @@ fn largest(input: &[u64], out: &mut [u64], hits: &mut Hits) {
 }
 
 // a pair; cosine, sine, tangent; the matrix, which comes out rotated
-branches!(pub Applied {
-    Pair12 = "pair 12",
-    Pair13 = "pair 13",
-    Pair23 = "pair 23",
-    NotFinite = "a NaN or infinity given",
-    Overflow = "a NaN or infinity made",
-    Chosen = "input: the rotation of the pair",
-    Any = "input: any floats",
-});
-
-impl Applied {
-    pub fn count(pair: u64, given: &[f64], made: &[f64], hits: &mut Hits) {
-        let pair = PAIRS.iter().position(|p| p.0 == pair).expect("a pair");
-        hits.hit(Self::Pair12 as usize + pair);
-        if !all_finite(given) {
-            hits.hit(Self::NotFinite as usize);
-        } else if !all_finite(made) {
-            hits.hit(Self::Overflow as usize);
-        }
-    }
-}
 
 /// The pairs' places in a packed matrix.
 fn place_of(p: usize, q: usize) -> usize {

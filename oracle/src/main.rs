@@ -1,4 +1,4 @@
-//! Compares the proved build, behind the probe, with Rust and the crate's own modules, bit for bit.
+//! Compares the proved build, behind the probe, with Rust and the crate's own modules, bit for bit, and answers records by them.
 
 mod algebra;
 mod cholesky;
@@ -6,17 +6,27 @@ mod codes;
 mod driver;
 mod eigen;
 mod float;
+mod kinds;
 mod lent;
+mod listed;
 mod matrix;
 mod modules;
+mod nights;
 mod numbers;
 mod random;
+mod reached;
+mod record;
+mod requests;
 mod root;
+mod rotations;
 mod search;
 mod shapes;
+mod stream;
 mod subject;
 mod svd;
+mod table;
 
+use std::io::{self, BufWriter};
 use std::process::ExitCode;
 use subject::Subject;
 
@@ -32,42 +42,75 @@ const SUBJECTS: &[&[Subject]] = &[
 
 fn main() -> ExitCode {
     let words: Vec<String> = std::env::args().skip(1).collect();
-    match done(&words) {
-        Some(true) => ExitCode::SUCCESS,
-        Some(false) => ExitCode::FAILURE,
+    let words: Vec<&str> = words.iter().map(String::as_str).collect();
+    let done = with_records(&words).or_else(|| with_subject(&words));
+    match done {
+        Some(Ok(true)) => ExitCode::SUCCESS,
+        Some(Ok(false)) => ExitCode::FAILURE,
+        Some(Err(error)) => {
+            eprintln!("oracle: {}: {error}", words[0]);
+            ExitCode::FAILURE
+        }
         None => {
-            let names: Vec<&str> = subjects().map(|s| s.name).collect();
-            eprintln!("usage: oracle SUBJECT COUNT SEED [PROBE-COMMAND...]");
-            eprintln!("       oracle search-eigen COUNT SEED");
-            eprintln!("subjects: {}", names.join(" "));
+            usage();
             ExitCode::from(2)
         }
     }
+}
+
+fn usage() {
+    let names: Vec<&str> = subjects().map(|s| s.name).collect();
+    eprintln!("usage: oracle SUBJECT COUNT SEED [PROBE-COMMAND...]");
+    eprintln!("       oracle search-eigen COUNT SEED");
+    eprintln!("       oracle requests COUNT SEED > REQUESTS");
+    eprintln!("       oracle golden > REQUESTS");
+    eprintln!("       oracle answers < REQUESTS > ANSWERS");
+    eprintln!("       oracle branches < REQUESTS");
+    eprintln!("       oracle table REQUESTS ANSWERS");
+    eprintln!("subjects: {}", names.join(" "));
 }
 
 fn subjects() -> impl Iterator<Item = &'static Subject> {
     SUBJECTS.iter().copied().flatten()
 }
 
-/// Does what the words ask for, and says whether all is well.
-fn done(words: &[String]) -> Option<bool> {
+/// Does what the words ask for, where that is of records, and says whether all is well.
+fn with_records(words: &[&str]) -> Option<io::Result<bool>> {
+    Some(match words {
+        ["answers"] => answers().map(|()| true),
+        ["requests", count, seed] => {
+            write_requests(count.parse().ok()?, seed.parse().ok()?).map(|()| true)
+        }
+        ["golden"] => write_requests(requests::GOLDEN.0, requests::GOLDEN.1).map(|()| true),
+        ["branches"] => reached::show(&mut io::stdin().lock()),
+        ["table", requests, answers] => table::show(requests, answers),
+        _ => return None,
+    })
+}
+
+fn answers() -> io::Result<()> {
+    stream::answers(&mut io::stdin().lock(), &mut stream::standard_output()?)
+}
+
+fn write_requests(count: u64, seed: u64) -> io::Result<()> {
+    let output = stream::standard_output()?;
+    requests::write(count, seed, &mut BufWriter::with_capacity(1 << 16, output))
+}
+
+/// The same of a subject.
+fn with_subject(words: &[&str]) -> Option<io::Result<bool>> {
     let [name, count, seed, probe @ ..] = words else {
         return None;
     };
     let (count, seed) = (count.parse().ok()?, seed.parse().ok()?);
-    if name == "search-eigen" {
+    if *name == "search-eigen" {
         search::eigen(count, seed);
-        return Some(true);
+        return Some(Ok(true));
     }
-    let subject = subjects().find(|s| s.name == name)?;
-    if probe.is_empty() {
-        return Some(driver::survey(subject, count, seed));
-    }
-    match driver::run(subject, count, seed, probe) {
-        Ok(well) => Some(well),
-        Err(error) => {
-            eprintln!("oracle: {}: {error}", subject.name);
-            Some(false)
-        }
-    }
+    let subject = subjects().find(|s| s.name == *name)?;
+    Some(if probe.is_empty() {
+        Ok(driver::survey(subject, count, seed))
+    } else {
+        driver::run(subject, count, seed, probe)
+    })
 }

@@ -81,6 +81,12 @@ pub fn even(random: &mut Random) -> f64 {
     with_sign(random, size)
 }
 
+/// The sum in order, from -0 on. Rust's own starts with a zero whose sign is not the same in all its versions, and a seed shall give
+/// the same inputs everywhere.
+pub fn sum(numbers: impl Iterator<Item = f64>) -> f64 {
+    numbers.fold(-0.0, |sum, x| sum + x)
+}
+
 /// Fills the places with numbers of one kind, here and there a zero of either sign among them, or once more the number before.
 pub fn fill(random: &mut Random, places: &mut [f64]) {
     let kind = random.below(8);
@@ -125,6 +131,18 @@ pub fn fill_words(random: &mut Random, words: &mut [u64]) {
     fill(random, places);
     put(words, places);
     spoil(random, words);
+}
+
+/// Any floats: now and then several that are not finite.
+pub fn any_words(random: &mut Random, words: &mut [u64]) {
+    fill_words(random, words);
+    if random.below(8) == 0 {
+        for word in words {
+            if random.below(3) == 0 {
+                *word = not_finite(random);
+            }
+        }
+    }
 }
 
 /// The place of the first number that is not finite.

@@ -2,9 +2,10 @@
 //!
 //! Half of the matrices are new ones of all kinds, and half are the best so far with a place or two changed.
 
-use crate::eigen::{matrix, run, Run, LIMIT, MOST};
+use crate::eigen::{matrix, run, Run};
 use crate::numbers::{all_finite, beside, even, power_of_two, whole, with_sign};
 use crate::random::Random;
+use crate::rotations::{LIMIT, MOST};
 
 /// What is looked for: the score of a matrix and its end, the higher the better, where it has one.
 struct Goal {

@@ -8,16 +8,20 @@ use crate::algebra::dense::fixed::dense3x3::svd::{
 };
 use crate::algebra::{DenseMatrix2, DenseMatrix3};
 use crate::codes::{ANSWER_NOT_FINITE, DONE, INPUT_NOT_FINITE};
-use crate::eigen::{
-    a_pair, alike, any_words, choice, exchanges, pair_of, Applied, Largest, LIMIT, MOST, PAIRS,
-};
-use crate::float::{subnormal, SIGN};
+use crate::float::SIGN;
 use crate::numbers::{
-    about, all_finite, beside, even, finite, first_not_finite, numbers, power_of_two, put, spoil,
-    whole, with_sign, zero,
+    about, all_finite, any_words, beside, even, first_not_finite, numbers, power_of_two, put,
+    spoil, sum, whole, with_sign, zero,
 };
 use crate::random::Random;
-use crate::shapes::{rotation, Columns};
+use crate::rotations::{
+    a_pair, choice, count_length, count_order, count_pair, exchanges, pair_of, Applied, Largest,
+    LIMIT, MOST, PAIRS,
+};
+use crate::shapes::{
+    any_exponents, any_subnormal, evenly, isotropic_parts, one_exponent, rotation, some_subnormal,
+    turn, whole_numbers, zeros, Columns,
+};
 use crate::subject::{branches, first, Hits, Subject};
 use std::cmp::Ordering;
 
@@ -181,153 +185,135 @@ fn input(random: &mut Random, number: u64, words: &mut [u64], hits: &mut Hits) {
         return put(words, listed);
     }
     let (kind, matrix) = matrix(random);
-    hits.hit(kind as usize);
+    hits.hit(Svd::AnyExponents as usize + kind);
     put(words, &matrix);
     spoil(random, words);
 }
 
-/// A matrix by columns, with its kind.
-fn matrix(random: &mut Random) -> (Svd, [f64; 9]) {
+/// The kinds of matrices, in the order of the branches that count them.
+const KINDS: [fn(&mut Random) -> [f64; 9]; 18] = [
+    any_exponents,
+    one_exponent,
+    evenly,
+    whole_numbers,
+    some_subnormal,
+    singular,
+    of_rank_one,
+    orthogonal,
+    nearly_orthogonal,
+    geophone,
+    reflection,
+    zero_columns,
+    zeros,
+    huge,
+    about_limit,
+    ties,
+    symmetric,
+    nearly_isotropic,
+];
+
+/// A matrix by columns, with the place of its kind.
+fn matrix(random: &mut Random) -> (usize, [f64; 9]) {
+    let kind = random.below(KINDS.len() as u64) as usize;
+    (kind, KINDS[kind](random))
+}
+
+/// A column is the sum, or a part of the sum, of the others.
+fn singular(random: &mut Random) -> [f64; 9] {
+    let mut a = [0; 9].map(|_| even(random));
+    let (last, by) = (random.below(3) as usize, even(random));
+    for r in 0..3 {
+        let others = sum((0..3).filter(|c| *c != last).map(|c| a[3 * c + r]));
+        a[3 * last + r] = by * others;
+    }
+    a
+}
+
+fn of_rank_one(random: &mut Random) -> [f64; 9] {
+    let [u, v] = [0; 2].map(|_| [0; 3].map(|_| even(random)));
+    let scale = power_of_two(whole(random, -60, 60));
+    std::array::from_fn(|i| scale * u[i % 3] * v[i / 3])
+}
+
+fn orthogonal(random: &mut Random) -> [f64; 9] {
+    by_columns(rotation(random))
+}
+
+fn nearly_orthogonal(random: &mut Random) -> [f64; 9] {
+    let noise = power_of_two(whole(random, -56, -4));
+    by_columns(rotation(random)).map(|x| x + noise * even(random))
+}
+
+fn reflection(random: &mut Random) -> [f64; 9] {
+    let mut a = by_columns(rotation(random));
+    let c = random.below(3) as usize;
+    for x in &mut a[3 * c..3 * c + 3] {
+        *x = -*x;
+    }
+    a
+}
+
+fn zero_columns(random: &mut Random) -> [f64; 9] {
     let mut a = [0.0; 9];
-    let kind = match random.below(18) {
-        0 => {
-            a = a.map(|_| finite(random));
-            Svd::AnyExponents
+    let e = whole(random, -1074, 1023);
+    for column in a.chunks_exact_mut(3) {
+        let filled = random.bits(1) == 0;
+        for x in column {
+            *x = match (filled, random.bits(1)) {
+                (false, _) => zero(random),
+                (_, 0) => even(random),
+                _ => about(random, e),
+            };
         }
-        1 => {
-            let e = whole(random, -1074, 1015);
-            a = a.map(|_| {
-                let e = e + whole(random, 0, 8);
-                about(random, e)
-            });
-            Svd::OneExponent
+    }
+    a
+}
+
+fn huge(random: &mut Random) -> [f64; 9] {
+    [0; 9].map(|_| {
+        let e = whole(random, 1018, 1023);
+        match random.below(4) {
+            0 => zero(random),
+            _ => about(random, e),
         }
-        2 => {
-            let scale = power_of_two(whole(random, -60, 60));
-            a = a.map(|_| scale * even(random));
-            Svd::Even
-        }
-        3 => {
-            a = a.map(|_| whole(random, -4, 4) as f64);
-            Svd::Whole
-        }
-        4 => {
-            a = a.map(|_| match random.below(3) {
-                0 => even(random),
-                _ => {
-                    let size = f64::from_bits(subnormal(random));
-                    with_sign(random, size)
-                }
-            });
-            Svd::Subnormal
-        }
-        5 => {
-            // a column is the sum, or a part of the sum, of the others
-            a = a.map(|_| even(random));
-            let (last, by) = (random.below(3) as usize, even(random));
-            for r in 0..3 {
-                let others: f64 = (0..3).filter(|c| *c != last).map(|c| a[3 * c + r]).sum();
-                a[3 * last + r] = by * others;
-            }
-            Svd::Singular
-        }
-        6 => {
-            let [u, v] = [0; 2].map(|_| [0; 3].map(|_| even(random)));
-            let scale = power_of_two(whole(random, -60, 60));
-            a = std::array::from_fn(|i| scale * u[i % 3] * v[i / 3]);
-            Svd::RankOne
-        }
-        7 => {
-            a = by_columns(rotation(random));
-            Svd::Orthogonal
-        }
-        8 => {
-            let noise = power_of_two(whole(random, -56, -4));
-            a = by_columns(rotation(random)).map(|x| x + noise * even(random));
-            Svd::NearlyOrthogonal
-        }
-        9 => {
-            a = geophone(random);
-            Svd::Geophone
-        }
-        10 => {
-            a = by_columns(rotation(random));
-            let c = random.below(3) as usize;
-            for x in &mut a[3 * c..3 * c + 3] {
-                *x = -*x;
-            }
-            Svd::Reflection
-        }
-        11 => {
-            let e = whole(random, -1074, 1023);
-            for c in 0..3 {
-                let filled = random.bits(1) == 0;
-                for x in &mut a[3 * c..3 * c + 3] {
-                    *x = match (filled, random.bits(1)) {
-                        (false, _) => zero(random),
-                        (_, 0) => even(random),
-                        _ => about(random, e),
-                    };
-                }
-            }
-            Svd::ZeroColumns
-        }
-        12 => {
-            a = a.map(|_| match random.below(3) {
-                0 => whole(random, -2, 2) as f64,
-                _ => zero(random),
-            });
-            Svd::Zeros
-        }
-        13 => {
-            a = a.map(|_| {
-                let e = whole(random, 1018, 1023);
-                match random.below(4) {
-                    0 => zero(random),
-                    _ => about(random, e),
-                }
-            });
-            Svd::Huge
-        }
-        14 => {
-            a = a.map(|_| match random.below(3) {
-                0 => beside(random, LIMIT / 2.0, 2),
-                1 => zero(random),
-                _ => {
-                    let e = whole(random, -47, -43);
-                    about(random, e)
-                }
-            });
-            for i in [0, 4, 8] {
-                a[i] = even(random);
-            }
-            Svd::AboutLimit
-        }
-        15 => {
-            let size = even(random);
-            a = a.map(|_| match random.below(6) {
-                0 => zero(random),
-                _ => with_sign(random, size),
-            });
-            Svd::Ties
-        }
-        16 => {
-            let scale = power_of_two(whole(random, -40, 40));
-            a = a.map(|_| scale * even(random));
-            [a[3], a[6], a[7]] = [a[1], a[2], a[5]];
-            Svd::Symmetric
-        }
+    })
+}
+
+fn about_limit(random: &mut Random) -> [f64; 9] {
+    let a = [0; 9].map(|_| match random.below(3) {
+        0 => beside(random, LIMIT / 2.0, 2),
+        1 => zero(random),
         _ => {
-            let size = power_of_two(whole(random, 0, 40)) * (1.0 + even(random).abs());
-            let scale = power_of_two(whole(random, -44, -8));
-            a = a.map(|_| scale * even(random));
-            for i in [0, 4, 8] {
-                a[i] = beside(random, size, 1);
-            }
-            Svd::NearlyIsotropic
+            let e = whole(random, -47, -43);
+            about(random, e)
         }
-    };
-    (kind, a)
+    });
+    with_diagonal(a, [0; 3].map(|_| even(random)))
+}
+
+fn ties(random: &mut Random) -> [f64; 9] {
+    let size = even(random);
+    [0; 9].map(|_| match random.below(6) {
+        0 => zero(random),
+        _ => with_sign(random, size),
+    })
+}
+
+fn symmetric(random: &mut Random) -> [f64; 9] {
+    let scale = power_of_two(whole(random, -40, 40));
+    let mut a = [0; 9].map(|_| scale * even(random));
+    [a[3], a[6], a[7]] = [a[1], a[2], a[5]];
+    a
+}
+
+fn nearly_isotropic(random: &mut Random) -> [f64; 9] {
+    let (a, diagonal) = isotropic_parts(random);
+    with_diagonal(a, diagonal)
+}
+
+fn with_diagonal(mut a: [f64; 9], diagonal: [f64; 3]) -> [f64; 9] {
+    [a[0], a[4], a[8]] = diagonal;
+    a
 }
 
 fn by_columns(columns: Columns) -> [f64; 9] {
@@ -336,25 +322,30 @@ fn by_columns(columns: Columns) -> [f64; 9] {
 
 /// A turn about the vertical, then a tilt, each in steps whose cosine and sine are quotients of small whole numbers.
 fn geophone(random: &mut Random) -> [f64; 9] {
-    let [(c, s), (d, t)] = [0; 2].map(|_| {
-        let h = whole(random, -40, 40) as f64 / 40.0;
-        ((1.0 - h * h) / (1.0 + h * h), 2.0 * h / (1.0 + h * h))
-    });
+    let [(c, s), (d, t)] = [0; 2].map(|_| turn(whole(random, -40, 40) as f64 / 40.0));
     [c, s, 0.0, -s * d, c * d, t, s * t, -c * t, d]
 }
 
 /// The end of a run.
-struct Run {
-    a: DenseMatrix3<f64>,
-    u: DenseMatrix3<f64>,
-    v: DenseMatrix3<f64>,
-    values: [f64; 3],
-    count: u64,
-    settled: bool,
+pub struct Run {
+    pub a: DenseMatrix3<f64>,
+    pub u: DenseMatrix3<f64>,
+    pub v: DenseMatrix3<f64>,
+    pub values: [f64; 3],
+    pub count: u64,
+    pub settled: bool,
+}
+
+impl Run {
+    pub fn is_finite(&self) -> bool {
+        [&self.a, &self.u, &self.v]
+            .iter()
+            .all(|m| all_finite(&m.data))
+    }
 }
 
 /// The run of `svd`, made of the crate's own steps, with its count. Shows the matrix before each rotation, and its largest pair.
-fn run(a: [f64; 9], mut show: impl FnMut(&DenseMatrix3<f64>, usize, usize)) -> Run {
+pub fn run(a: [f64; 9], mut show: impl FnMut(&DenseMatrix3<f64>, usize, usize)) -> Run {
     let mut a = DenseMatrix3 { data: a };
     let mut u = DenseMatrix3::zeros();
     let mut v = DenseMatrix3::zeros();
@@ -395,7 +386,7 @@ fn svd3(input: &[u64], out: &mut [u64], hits: &mut Hits) {
     }
     let end = run(given, |a, p, q| count_rotation(a, p, q, hits));
     same_as_plain(given, &end);
-    if !all_finite(&end.a.data) || !all_finite(&end.u.data) || !all_finite(&end.v.data) {
+    if !end.is_finite() {
         out[0] = ANSWER_NOT_FINITE;
         return hits.hit(Svd::Answer as usize);
     }
@@ -434,13 +425,8 @@ fn same_as_plain(given: [f64; 9], end: &Run) {
 
 fn count_rotation(a: &DenseMatrix3<f64>, p: usize, q: usize, hits: &mut Hits) {
     let pair = pair_at(p, q);
-    hits.hit(Svd::Pair12 as usize + pair);
     let sizes = sizes_of(a);
-    match alike(sizes, sizes[pair]) {
-        2 => hits.hit(Svd::TwoLargest as usize),
-        3 => hits.hit(Svd::AllLargest as usize),
-        _ => {}
-    }
+    count_pair(Svd::Pair12 as usize, pair, sizes, sizes[pair], hits);
     let (app, aqp, apq, aqq) = (a[(p, p)], a[(q, p)], a[(p, q)], a[(q, q)]);
     hits.hit(Svd::PolarNone as usize + size_kind(app, aqp, apq, aqq));
     let (_, _, s11, s12, s22) = compute_polar_2x2(app, aqp, apq, aqq);
@@ -470,35 +456,19 @@ fn size_kind(app: f64, aqp: f64, apq: f64, aqq: f64) -> usize {
 }
 
 fn count_end(end: &Run, hits: &mut Hits) {
-    let mut hit = |branch: Svd| hits.hit(branch as usize);
-    hit(Svd::Done);
-    hit(match (end.count, end.settled) {
-        (0, _) => Svd::Rotations0,
-        (1, _) => Svd::Rotations1,
-        (2..=12, _) => Svd::Rotations12,
-        (MOST, true) => Svd::Settled25,
-        (MOST, false) => Svd::Unsettled25,
-        _ => Svd::Rotations24,
-    });
-    if end.values[0] == end.values[1] || end.values[1] == end.values[2] {
-        hit(Svd::Alike);
-    }
+    hits.hit(Svd::Done as usize);
+    count_length(Svd::Rotations0 as usize, end.count, end.settled, hits);
     let diagonal = [end.a.data[0], end.a.data[4], end.a.data[8]];
     if diagonal.iter().any(|x| x.to_bits() == SIGN) {
-        hit(Svd::FlipZero);
+        hits.hit(Svd::FlipZero as usize);
     }
-    let exchanged = exchanges(diagonal.map(f64::abs), PartialOrd::lt);
-    if exchanged == [false; 3] {
-        hit(Svd::NoExchange);
-    }
-    for i in 0..3 {
-        if diagonal[i].is_sign_negative() {
+    for (i, x) in diagonal.iter().enumerate() {
+        if x.is_sign_negative() {
             hits.hit(Svd::Flip1 as usize + i);
         }
-        if exchanged[i] {
-            hits.hit(Svd::Exchange12 as usize + i);
-        }
     }
+    let sizes = diagonal.map(f64::abs);
+    count_order(Svd::NoExchange as usize, sizes, PartialOrd::lt, hits);
 }
 
 // ---- 2x2: the matrix; code, settled, values, U, V
@@ -553,20 +523,14 @@ fn matrix2(random: &mut Random) -> [f64; 4] {
     let a = [0.0; 4];
     let e = whole(random, -1074, 1015);
     match random.below(12) {
-        0 => a.map(|_| finite(random)),
+        0 => any_exponents(random),
         1 => a.map(|_| {
             let e = e + whole(random, 0, 8);
             about(random, e)
         }),
-        2 => a.map(|_| whole(random, -4, 4) as f64),
-        3 => a.map(|_| {
-            let size = f64::from_bits(subnormal(random));
-            with_sign(random, size)
-        }),
-        4 => a.map(|_| match random.below(3) {
-            0 => whole(random, -2, 2) as f64,
-            _ => zero(random),
-        }),
+        2 => whole_numbers(random),
+        3 => a.map(|_| any_subnormal(random)),
+        4 => zeros(random),
         5 => a.map(|_| match random.below(6) {
             0 => zero(random),
             1 | 2 => {
@@ -582,8 +546,7 @@ fn matrix2(random: &mut Random) -> [f64; 4] {
         }
         7 => {
             // a turn or a reflection
-            let h = even(random);
-            let (c, s) = ((1.0 - h * h) / (1.0 + h * h), 2.0 * h / (1.0 + h * h));
+            let (c, s) = turn(even(random));
             match random.bits(1) {
                 0 => [c, s, -s, c],
                 _ => [c, s, s, -c],
@@ -611,6 +574,16 @@ fn matrix2(random: &mut Random) -> [f64; 4] {
     }
 }
 
+/// The values, U and V, where all of them are finite.
+pub fn call2(given: [f64; 4]) -> Option<([f64; 2], [f64; 4], [f64; 4])> {
+    let mut a = DenseMatrix2 { data: given };
+    let mut u = DenseMatrix2::zeros();
+    let mut v = DenseMatrix2::zeros();
+    let values = a.svd(&mut u, &mut v);
+    let finite = all_finite(&values) && all_finite(&u.data) && all_finite(&v.data);
+    finite.then_some((values, u.data, v.data))
+}
+
 fn svd2(input: &[u64], out: &mut [u64], hits: &mut Hits) {
     let given = numbers::<4>(input);
     out.fill(0);
@@ -622,14 +595,10 @@ fn svd2(input: &[u64], out: &mut [u64], hits: &mut Hits) {
     hits.hit(Svd2::PolarNone as usize + size_kind(app, aqp, apq, aqq));
     let (_, _, s11, s12, s22) = compute_polar_2x2(app, aqp, apq, aqq);
     hits.hit(Svd2::Tiny as usize + choice(s12, s11, s22) as usize);
-    let mut a = DenseMatrix2 { data: given };
-    let mut u = DenseMatrix2::zeros();
-    let mut v = DenseMatrix2::zeros();
-    let values = a.svd(&mut u, &mut v);
-    if !all_finite(&values) || !all_finite(&u.data) || !all_finite(&v.data) {
+    let Some((values, u, v)) = call2(given) else {
         out[0] = ANSWER_NOT_FINITE;
         return hits.hit(Svd2::Answer as usize);
-    }
+    };
     let (_, _, _, _, d1, d2) = compute_two_sided_rotation(app, aqp, apq, aqq);
     let mut hit = |branch: Svd2| hits.hit(branch as usize);
     hit(match d1.abs().partial_cmp(&d2.abs()).expect("numbers") {
@@ -649,8 +618,8 @@ fn svd2(input: &[u64], out: &mut [u64], hits: &mut Hits) {
     out[0] = DONE;
     out[1] = 1;
     put(&mut out[2..], &values);
-    put(&mut out[4..], &u.data);
-    put(&mut out[8..], &v.data);
+    put(&mut out[4..], &u);
+    put(&mut out[8..], &v);
 }
 
 // ---- single steps, which take any floats and refuse none

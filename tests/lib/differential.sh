@@ -1,11 +1,12 @@
-# Sourced by the differential tests in the repository's root, with the variable seed set. Builds the oracle and the probe, and
-# gives the functions compare and finish. Exit status 77: there is nothing to compare with (oracle/build says what).
+# Sourced by the differential tests in the repository's root. Builds the oracle and a proved program: the one that the variable
+# proved names, or else the probe. Gives the functions compare, for which the variable seed is set, and finish. Exit status 77:
+# there is nothing to compare with (oracle/build says what).
 
 test=$(basename "$0")
 oracle=$(oracle/build) || exit $?
 # no proof is done again where nothing changed
 mkdir -p target
-if ! rt check probe >"target/$test.log" 2>&1; then
+if ! rt check "${proved:-probe}" >"target/$test.log" 2>&1; then
     cat "target/$test.log"
     exit 1
 fi

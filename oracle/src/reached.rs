@@ -1,0 +1,166 @@
+//! Which branches the requests of a file reach: of each kind's own tests, and of the definitions behind it.
+
+use crate::float::SIGN;
+use crate::kinds::Kind;
+use crate::numbers::number;
+use crate::random::Random;
+use crate::record::{answer, Request, CODE_AT, COUNT_AT, NUMBERS_AT, REQUEST_BYTES};
+use crate::requests::of_its_subject;
+use crate::stream::read_record;
+use crate::subject::Hits;
+use std::io::{self, Read};
+
+/// The hits of one kind.
+struct Reached {
+    of: &'static Kind,
+    /// Of the subject with the same call.
+    subject: Hits,
+    /// For each reserved byte, and each number that is not used, the requests where nothing but this is refused; and the same for
+    /// each number that is used and not finite.
+    reserved: [u64; 3],
+    unused: [u64; 12],
+    not_finite: [u64; 12],
+    /// Of those that are solved, how many have a -0 in the solution.
+    minus_zero: u64,
+}
+
+/// Prints how often each branch was reached, and says whether each was that a record can reach. Each answer is also held to the
+/// subject's, which in turn holds its run of steps to the crate's own call.
+pub fn show(input: &mut impl Read) -> io::Result<bool> {
+    let mut kinds: Vec<Reached> = (1..=8).map(Reached::new).collect();
+    let mut bytes = [0; REQUEST_BYTES];
+    while read_record(input, &mut bytes)? == REQUEST_BYTES {
+        let request = Request::of(&bytes);
+        let place = usize::from(request.kind).wrapping_sub(1);
+        if let Some(reached) = kinds.get_mut(place) {
+            reached.count(&request);
+        }
+    }
+    let missed: usize = kinds.iter().map(Reached::print).sum();
+    println!("branches: {missed} never hit");
+    Ok(missed == 0)
+}
+
+impl Reached {
+    fn new(kind: u8) -> Self {
+        let of = Kind::of(kind).expect("a known kind");
+        Self {
+            of,
+            subject: Hits(vec![0; of.subject().branches.len()]),
+            reserved: [0; 3],
+            unused: [0; 12],
+            not_finite: [0; 12],
+            minus_zero: 0,
+        }
+    }
+
+    fn count(&mut self, request: &Request) {
+        let words: Vec<u64> = request.nine.into_iter().chain(request.three).collect();
+        let used = |i: usize| self.of.uses(i);
+        let unused: Vec<usize> = (0..12).filter(|i| !used(*i) && words[*i] != 0).collect();
+        let reserved: Vec<usize> = (0..3).filter(|i| request.reserved[*i] != 0).collect();
+        match (&reserved[..], &unused[..]) {
+            ([], []) => {}
+            ([byte], []) => return self.reserved[*byte] += 1,
+            ([], [place]) => return self.unused[*place] += 1,
+            _ => return,
+        }
+        let finite = |i: usize| number(words[i]).is_finite();
+        let places: Vec<usize> = (0..12).filter(|i| used(*i) && !finite(*i)).collect();
+        if let [place] = &places[..] {
+            self.not_finite[*place] += 1;
+        }
+        self.ask_subject(request);
+    }
+
+    fn ask_subject(&mut self, request: &Request) {
+        let subject = self.of.subject();
+        let mut input = vec![0; self.of.before()];
+        input.extend_from_slice(&request.nine[..self.of.nine]);
+        input.extend_from_slice(&request.three[..self.of.three]);
+        let mut right = vec![0; subject.words_out];
+        (subject.answer)(&input, &mut right, &mut self.subject);
+        let answer = answer(&request.bytes());
+        let code = u64::from(answer[CODE_AT]);
+        assert_eq!(code, right[0], "not {}'s code, of {input:X?}", subject.name);
+        let values = answer[NUMBERS_AT..].chunks_exact(8).take(3);
+        let minus_zero = SIGN.to_le_bytes();
+        self.minus_zero += u64::from(values.into_iter().any(|value| value == minus_zero));
+        // the pivot's number, or the count of a 3x3 run; a 2x2 call has its mark there
+        if subject.name != "eigen2" && subject.name != "svd2" {
+            let count = u64::from(answer[COUNT_AT]);
+            assert_eq!(
+                count, right[1],
+                "not {}'s count, of {input:X?}",
+                subject.name
+            );
+        }
+    }
+
+    /// Prints the counts, and says how many are 0 that need not be.
+    fn print(&self) -> usize {
+        let mut missed = 0;
+        let mut line = |name: &str, count: u64| {
+            println!("{}: {name:<36} {count}", self.of.name);
+            missed += usize::from(count == 0);
+        };
+        for (byte, count) in self.reserved.iter().enumerate() {
+            line(&format!("4: by byte {} alone", 5 + byte), *count);
+        }
+        for i in 0..12 {
+            if self.of.uses(i) {
+                line(&format!("5: by {} alone", place(i)), self.not_finite[i]);
+            } else {
+                line(&format!("4: by {} alone", place(i)), self.unused[i]);
+            }
+        }
+        let subject = self.of.subject();
+        for (branch, count) in subject.branches.iter().zip(&self.subject.0) {
+            if of_records(branch) {
+                line(branch, *count);
+            }
+        }
+        if self.of.three > 0 {
+            line("0: -0 in the solution", self.minus_zero);
+        }
+        missed
+    }
+}
+
+/// Inputs of the kind's subject, each of which reaches a branch that those before it reached fewer than so many times. The search
+/// ends when each branch has so many, or after that many inputs in all: a branch that is then missing shows in `show`.
+pub fn reaching(kind: u8, times: u64) -> Vec<Request> {
+    const INPUTS: u64 = 1 << 18;
+    let mut random = Random::new(u64::from(kind));
+    let mut reached = Reached::new(kind);
+    let mut kept = Vec::new();
+    for _ in 0..INPUTS {
+        let request = of_its_subject(&mut random, kind, u64::MAX);
+        let before = reached.subject.0.clone();
+        reached.ask_subject(&request);
+        let after = reached.subject.0.iter();
+        if before.iter().zip(after).any(|(b, a)| a > b && *b < times) {
+            kept.push(request);
+        } else {
+            reached.subject.0 = before;
+        }
+        let branches = reached.of.subject().branches.iter();
+        let mut left = branches.zip(&reached.subject.0);
+        if left.all(|(branch, count)| *count >= times || !of_records(branch)) {
+            break;
+        }
+    }
+    kept
+}
+
+fn place(i: usize) -> String {
+    match i {
+        0..9 => format!("number {} of the nine", i + 1),
+        _ => format!("number {} of the three", i - 8),
+    }
+}
+
+/// Whether a record can reach a subject's branch. It has no old factor, and what its generator counts are no branches.
+fn of_records(branch: &str) -> bool {
+    !branch.contains("old factor") && !branch.starts_with("input: ")
+}

@@ -1,0 +1,218 @@
+//! How often each kind was answered with each code, from a file of requests and one with their answers.
+
+use crate::codes::{
+    ANSWER_NOT_FINITE, DONE, INPUT_LENGTH, INPUT_NOT_FINITE, KIND, NOT_ZERO, PIVOT,
+};
+use crate::kinds::KINDS;
+use crate::record::{ANSWER_BYTES, CODE_AT, COUNT_AT, KIND_AT, REQUEST_BYTES, SETTLED_AT};
+use crate::rotations::MOST;
+use crate::stream::read_record;
+use std::fs::File;
+use std::io::{self, BufReader};
+
+/// The codes that a record can have. 2 and 8 are of calls alone: a program's answer has room, and no kind names a row.
+const CODES: [u64; 7] = [
+    DONE,
+    INPUT_LENGTH,
+    KIND,
+    NOT_ZERO,
+    INPUT_NOT_FINITE,
+    PIVOT,
+    ANSWER_NOT_FINITE,
+];
+
+/// The row of all that is none of the eight kinds, with the part of a request at the end, whose answer has a 0 there.
+const OTHER: usize = 0;
+
+const ROWS: usize = 9;
+
+/// Whether a kind can be answered with a code.
+fn possible(row: usize, code: u64) -> bool {
+    match code {
+        // 3 comes before every code but 1, and has all other kinds
+        KIND => row == OTHER,
+        // the end of the input is not looked at for its kind
+        INPUT_LENGTH => row == OTHER,
+        // no kernel but the factors has pivots
+        PIVOT => row >= 5,
+        // A 2x2 factor has a finite first root above 0, so the number below it is finite or infinite and never NaN. Where it is
+        // infinite, or its square is, the second pivot is -infinity, which is refused with 6.
+        ANSWER_NOT_FINITE => row != OTHER && row != 5,
+        // each kind has reserved bytes, a used number, and an answer
+        _ => row != OTHER,
+    }
+}
+
+/// A 2x2 factor has two pivots, and a 3x3 one three.
+fn pivots(row: usize) -> usize {
+    match row {
+        5 | 7 => 2,
+        6 | 8 => 3,
+        _ => 0,
+    }
+}
+
+/// So many faults are shown.
+const SHOWN: usize = 40;
+
+/// The kinds that count rotations.
+const COUNTED: [usize; 2] = [2, 4];
+
+/// Counts of answers.
+struct Table {
+    cells: [[u64; CODES.len()]; ROWS],
+    pivots: [[u64; 4]; ROWS],
+    rotations: [[u64; MOST as usize + 1]; ROWS],
+    /// Not settled, and settled.
+    settled: [[u64; 2]; ROWS],
+    /// What is not right, or was never met.
+    faults: Vec<String>,
+}
+
+/// Prints the table, and says whether all is well: each answer stands beside its request, none has what it cannot have, and each
+/// cell that can be met is.
+pub fn show(requests: &str, answers: &str) -> io::Result<bool> {
+    let mut table = Table {
+        cells: [[0; CODES.len()]; ROWS],
+        pivots: [[0; 4]; ROWS],
+        rotations: [[0; MOST as usize + 1]; ROWS],
+        settled: [[0; 2]; ROWS],
+        faults: Vec::new(),
+    };
+    table.read(requests, answers)?;
+    table.print_cells();
+    table.print_pivots();
+    table.print_rotations();
+    for fault in table.faults.iter().take(SHOWN) {
+        println!("table: {fault}");
+    }
+    if table.faults.len() > SHOWN {
+        println!("table: {} faults in all", table.faults.len());
+    }
+    Ok(table.faults.is_empty())
+}
+
+impl Table {
+    fn read(&mut self, requests: &str, answers: &str) -> io::Result<()> {
+        let mut requests = BufReader::with_capacity(1 << 16, File::open(requests)?);
+        let mut answers = BufReader::with_capacity(1 << 16, File::open(answers)?);
+        let mut request = [0; REQUEST_BYTES];
+        let mut answer = [0; ANSWER_BYTES];
+        for number in 0u64.. {
+            let given = read_record(&mut requests, &mut request)?;
+            let got = read_record(&mut answers, &mut answer)?;
+            let due = if given == 0 { 0 } else { ANSWER_BYTES };
+            if got != due {
+                let fault = format!("{got} bytes of answer {number}, where {due} are due");
+                self.faults.push(fault);
+                return Ok(());
+            }
+            if given == 0 {
+                return Ok(());
+            }
+            if given < REQUEST_BYTES {
+                request = [0; REQUEST_BYTES];
+            }
+            if request[..=KIND_AT] != answer[..=KIND_AT] {
+                let fault = format!("answer {number} has another event or kind than its request");
+                self.faults.push(fault);
+            }
+            self.count(&answer);
+        }
+        Ok(())
+    }
+
+    fn count(&mut self, answer: &[u8; ANSWER_BYTES]) {
+        let row = match answer[KIND_AT] {
+            kind @ 1..=8 => usize::from(kind),
+            _ => OTHER,
+        };
+        let (code, count) = (u64::from(answer[CODE_AT]), usize::from(answer[COUNT_AT]));
+        let Some(column) = CODES.iter().position(|c| *c == code) else {
+            return self.faults.push(format!("an answer with code {code}"));
+        };
+        self.cells[row][column] += 1;
+        let counts: &mut [u64] = match code {
+            PIVOT => &mut self.pivots[row],
+            DONE if COUNTED.contains(&row) => &mut self.rotations[row],
+            _ => &mut [0],
+        };
+        match counts.get_mut(count) {
+            Some(counted) => *counted += 1,
+            None => self
+                .faults
+                .push(format!("kind {row}, code {code} with {count} in byte 6")),
+        }
+        if code == DONE {
+            self.settled[row][usize::from(answer[SETTLED_AT] == 1)] += 1;
+        }
+    }
+
+    /// A cell as it is printed: a dash where there can be none.
+    fn cell(&mut self, name: String, count: u64, possible: bool) -> String {
+        match (count, possible) {
+            (0, true) => self.faults.push(format!("{name} was never met")),
+            (0, false) => return String::from("-"),
+            (_, false) => self.faults.push(format!("{name} cannot be, and was met")),
+            _ => {}
+        }
+        count.to_string()
+    }
+
+    fn print_cells(&mut self) {
+        let heads = CODES.map(|code| format!("{code:>8}"));
+        println!("{:<16}{}", "kind", heads.concat());
+        for row in (1..ROWS).chain([OTHER]) {
+            let name = name(row);
+            let mut line = format!("{name:<16}");
+            for (column, code) in CODES.into_iter().enumerate() {
+                let count = self.cells[row][column];
+                let cell = self.cell(format!("{name}, code {code}"), count, possible(row, code));
+                line += &format!("{cell:>8}");
+            }
+            println!("{line}");
+        }
+    }
+
+    fn print_pivots(&mut self) {
+        for row in 5..ROWS {
+            let mut line = format!("{:<16}refused pivots", name(row));
+            for pivot in 0..4 {
+                let possible = (1..=pivots(row)).contains(&pivot);
+                let count = self.pivots[row][pivot];
+                let cell = self.cell(format!("{}, pivot {pivot}", name(row)), count, possible);
+                if possible {
+                    line += &format!("  {pivot}: {cell}");
+                }
+            }
+            println!("{line}");
+        }
+    }
+
+    fn print_rotations(&mut self) {
+        for row in 1..ROWS {
+            // less than the most are made only where the end is settled, and the other kinds always are
+            let counted = COUNTED.contains(&row);
+            let name = name(row);
+            let [not, settled] = self.settled[row];
+            let not = self.cell(format!("{name}, not settled"), not, counted);
+            if !counted {
+                continue;
+            }
+            println!("{name:<16}settled  {settled}  not settled  {not}");
+            let mut line = format!("{name:<16}rotations");
+            for (rotations, count) in self.rotations[row].into_iter().enumerate() {
+                let cell = self.cell(format!("{name}, {rotations} rotations"), count, true);
+                line += &format!("  {rotations}: {cell}");
+            }
+            println!("{line}");
+        }
+    }
+}
+
+fn name(row: usize) -> String {
+    match row {
+        OTHER => String::from("other"),
+        _ => format!("{row} {}", KINDS[row - 1].name),
+    }
+}
