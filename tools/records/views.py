@@ -81,14 +81,15 @@ class TextView:
 class CsvView:
     """One header for all kinds; a cell is empty where an answer has no such number."""
     HEAD = ['offset', 'event', 'kind', 'code', 'meaning', 'pivot', 'rotations', 'settled']
-    NUMBERS = ([f'value_{i}' for i in '123']
-               + [f'{name}_{i}_{part}' for name in ('axis', 'U', 'V') for i in '123' for part in 'xyz']
-               + ['L11', 'L21', 'L22', 'L31', 'L32', 'L33'] + [f'solution_{part}' for part in 'xyz'])
+    VALUES = ['value_1', 'value_2', 'value_3']
+    VECTORS = [f'{name}_{i}_{part}' for name in ('axis', 'U', 'V') for i in '123' for part in 'xyz']
+    FACTOR = ['L11', 'L21', 'L22', 'L31', 'L32', 'L33']
+    SOLUTION = ['solution_x', 'solution_y', 'solution_z']
     GROUND = [f'axis_{i}_{angle}' for i in '123' for angle in ('trend', 'plunge')]
 
     def __init__(self, out, show=decimal, frame=None):
         self.show, self.frame = show, frame
-        names = self.HEAD + self.NUMBERS + (self.GROUND if frame else [])
+        names = self.HEAD + self.VALUES + self.VECTORS + self.FACTOR + self.SOLUTION + (self.GROUND if frame else [])
         self.rows = csv.DictWriter(out, names, restval='', lineterminator='\n')
 
     def begin(self):
@@ -107,9 +108,8 @@ class CsvView:
 
     def numbers(self, answer):
         parts = parts_of(answer)
-        for name in ('value', 'solution'):
-            for label, x in zip('123' if name == 'value' else 'xyz', parts.get(name.replace('value', 'values'), ())):
-                yield f'{name}_{label}', x
+        yield from zip(self.VALUES, parts.get('values', ()))
+        yield from zip(self.SOLUTION, parts.get('solution', ()))
         for name, vectors in (('axis', parts.get('axes')), ('U', parts.get('U')), ('V', parts.get('V'))):
             for i, vector in enumerate(vectors or (), start=1):
                 yield from ((f'{name}_{i}_{part}', x) for part, x in zip('xyz', vector))
