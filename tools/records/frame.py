@@ -39,7 +39,8 @@ class Frame:
         down_end = end_towards(self.in_ground(axis))
         if down_end is None:
             return None
-        north, east, down = down_end
+        # a zero with a sign would turn what points straight down to the south
+        north, east, down = (part + 0.0 for part in down_end)
         trend = math.degrees(math.atan2(east, north)) % 360
         plunge = math.degrees(math.atan2(down, math.hypot(north, east)))
         # what rounds to a full turn is north

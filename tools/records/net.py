@@ -168,7 +168,7 @@ class Net:
         lines = [f"{plural(self.tensors, 'tensor')} (eigen3, code 0)", f'{self.unsettled} of them unsettled']
         for count, words in ((self.others, f'{self.others} of other kinds or refused, not drawn'),
                              (self.foreign, f"{plural(self.foreign, 'foreign record')} not drawn"),
-                             (self.pointless, f"{plural(self.pointless, 'axis of length 0').replace('0s', '0')} not drawn"),
+                             (self.pointless, f'axes of length 0, not drawn: {self.pointless}'),
                              (self.left_over, f"{plural(self.left_over, 'byte')} left over at the end")):
             lines += [words] if count else []
         return lines
