@@ -1,4 +1,4 @@
-"""The example night: how it was made, and what it is answered with."""
+"""The examples: the list, how the night was made, and what it is answered with."""
 import collections
 import json
 import os
@@ -16,6 +16,13 @@ ANSWERS = os.path.join(EXAMPLES, 'night.answers')
 def content(path):
     with open(path, 'rb') as f:
         return f.read()
+
+
+class List(ToolTest):
+    def test_the_list_has_every_kind(self):
+        status, out, err = self.run_tool('make-requests', os.path.join(EXAMPLES, 'events.txt'))
+        self.assertEqual((status, err, len(out) % 104), (0, '', 0))
+        self.assertEqual({out[at + 4] for at in range(0, len(out), 104)}, set(range(1, 9)))
 
 
 class Night(ToolTest):
