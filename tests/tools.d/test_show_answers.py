@@ -48,12 +48,12 @@ class Text(ToolTest):
         rotations = ['-', '4', '-', '3', '-', '-', '-', '-']
         expected = [f'{7 + i} {KINDS[i]} {rotations[i]} yes 0 answered' for i in range(8)]
         expected += ['15 eigen3 25 no 0 answered',
-                     '- - - - 1 the request is cut short',
+                     '- - - - 1 the request has the wrong length',
                      '16 unknown 9 - - 3 the kind is not 1 to 8',
-                     '17 eigen2 - - 4 a reserved byte or an unused number is not zero',
-                     '18 eigen3 - - 5 a number of the request is NaN or infinite',
+                     '17 eigen2 - - 4 a reserved byte or an unused number is not all zero bits',
+                     '18 eigen3 - - 5 a used number of the request is NaN or infinite',
                      '19 cholesky3 - - 6 pivot 3 is <= 0',
-                     '20 solve3 - - 7 a number of the answer is NaN or infinite']
+                     '20 solve3 - - 7 a number of the answer or of the worked matrix is NaN or infinite']
         self.assertEqual(heads, [line.split() for line in expected])
 
     def test_columns_stay_aligned(self):
@@ -152,7 +152,7 @@ class Json(ToolTest):
             'offset': 0, 'event': 13, 'kind': 'solve2', 'code': 0, 'meaning': 'answered', 'pivot': None, 'rotations': None,
             'settled': True, 'solution': [1.25, 1.5], 'factor': [[2.0], [1.0, 2.0]]})
         self.assertEqual(self.objects(CUT)[0], {
-            'offset': 0, 'event': None, 'kind': None, 'code': 1, 'meaning': 'the request is cut short', 'pivot': None,
+            'offset': 0, 'event': None, 'kind': None, 'code': 1, 'meaning': 'the request has the wrong length', 'pivot': None,
             'rotations': None, 'settled': None})
 
     def test_every_kind_and_code(self):
@@ -196,10 +196,10 @@ class Damage(ToolTest):
             (spoilt(EIGEN2, 4, 0), 'code 0 is not given for kind 0'),
             (spoilt(EIGEN2, 4, 9), 'code 0 is not given for kind 9'),
             (spoilt(EIGEN3, 7, 2), 'the settled mark is 2, and must be 0 or 1'),
-            (spoilt(EIGEN3, 6, 26), '26 rotations, and eigen3 has at most 25 in its answer'),
-            (spoilt(SVD3, 6, 26), '26 rotations, and svd3 has at most 25 in its answer'),
-            (spoilt(EIGEN2, 6, 1), '1 rotations, and eigen2 has at most 0 in its answer'),
-            (spoilt(SOLVE3, 6, 1), '1 rotations, and solve3 has at most 0 in its answer'),
+            (spoilt(EIGEN3, 6, 26), 'the count of rotations is 26, and eigen3 has at most 25'),
+            (spoilt(SVD3, 6, 26), 'the count of rotations is 26, and svd3 has at most 25'),
+            (spoilt(EIGEN2, 6, 1), 'the count of rotations is 1, and eigen2 has at most 0'),
+            (spoilt(SOLVE3, 6, 1), 'the count of rotations is 1, and solve3 has at most 0'),
             (spoilt(EIGEN3, 7, 0), 'eigen3 is marked unsettled with 4 rotations'),
             (spoilt(SVD2, 7, 0), 'svd2 is marked unsettled with 0 rotations'),
             (answer(1, 6, code=6, count=0), 'the refused pivot is 0, and cholesky3 has 1 to 3'),

@@ -14,7 +14,7 @@ NUMBER = 8
 
 class Answer(NamedTuple):
     offset: int
-    event: Optional[int]        # None where the request was cut short
+    event: Optional[int]        # None where the request had the wrong length
     kind: Optional[Kind]        # None where there is none of that number
     kind_byte: int
     code: int
@@ -88,7 +88,7 @@ def head_fault(record, kind):
     count, mark = record[COUNT_AT], record[MARK_AT]
     most = MOST_ROTATIONS if kind.counts_rotations else 0
     if count > most:
-        return f'{count} rotations, and {kind.name} has at most {most} in its answer'
+        return f'the count of rotations is {count}, and {kind.name} has at most {most}'
     if mark > 1:
         return f'the settled mark is {mark}, and must be 0 or 1'
     if mark == 0 and count < MOST_ROTATIONS:

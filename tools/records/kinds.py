@@ -44,12 +44,12 @@ ANSWERED, WRONG_LENGTH, UNKNOWN_KIND, BAD_PIVOT = 0, 1, 3, 6
 # Code 2 is of a call and leaves its record unwritten, so no file has it.
 MEANINGS = {
     ANSWERED: 'answered',
-    WRONG_LENGTH: 'the request is cut short',
+    WRONG_LENGTH: 'the request has the wrong length',
     UNKNOWN_KIND: 'the kind is not 1 to 8',
-    4: 'a reserved byte or an unused number is not zero',
-    5: 'a number of the request is NaN or infinite',
+    4: 'a reserved byte or an unused number is not all zero bits',
+    5: 'a used number of the request is NaN or infinite',
     BAD_PIVOT: 'a pivot is <= 0',
-    7: 'a number of the answer is NaN or infinite',
+    7: 'a number of the answer or of the worked matrix is NaN or infinite',
 }
 
 REQUEST_SIZE = 104
