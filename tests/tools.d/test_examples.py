@@ -39,7 +39,7 @@ class Night(ToolTest):
         kinds = collections.Counter(request[4] for request in self.whole)
         self.assertTrue(all(kinds[kind] >= 10 for kind in range(1, 9)), kinds)
         self.assertTrue(any(kind not in range(1, 9) for kind in kinds), kinds)
-        self.assertTrue(300 <= len(self.whole) <= 500)
+        self.assertIn(f'{len(self.whole)} requests', content(os.path.join(EXAMPLES, 'README.md')).decode('utf-8'))
         self.assertTrue(0 < len(self.requests) % 104)
         isotropic = struct.pack('<6d', 2.0 ** 30, 2.0 ** -24, 2.0 ** 30, 2.0 ** -24, 0, 2.0 ** 30)
         self.assertEqual(sum(request[4] == 2 and request[8:56] == isotropic for request in self.whole), 1)
