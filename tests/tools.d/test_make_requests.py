@@ -137,6 +137,11 @@ class Output(ToolTest):
             self.one_line(*self.run_tool('make-requests', '-o', target, given=b'7 1 2 1 2'), 'is not a plain file')
         self.one_line(*self.run_tool('make-requests', '-o', 'none/x', given=b'7 1 2 1 2'), 'none/x: cannot be written')
 
+    def test_the_list_is_not_written_over(self):
+        self.put('list.txt', b'7 1 2 1 2')
+        self.one_line(*self.run_tool('make-requests', 'list.txt', '-o', './list.txt'), 'is the list itself')
+        self.assertEqual(self.get('list.txt'), b'7 1 2 1 2')
+
     def test_what_cannot_be_read(self):
         os.mkdir(self.path('folder'))
         self.one_line(*self.run_tool('make-requests', 'folder'), 'folder: cannot be read')
