@@ -1,0 +1,64 @@
+"""The examples: the list, how the night was made, and what it is answered with."""
+import collections
+import json
+import os
+import struct
+import subprocess
+import sys
+import unittest
+
+from support import TOP, ToolTest
+
+EXAMPLES = os.path.join(TOP, 'examples')
+ANSWERS = os.path.join(EXAMPLES, 'night.answers')
+
+
+def content(path):
+    with open(path, 'rb') as f:
+        return f.read()
+
+
+class List(ToolTest):
+    def test_the_list_has_every_kind(self):
+        status, out, err = self.run_tool('make-requests', os.path.join(EXAMPLES, 'events.txt'))
+        self.assertEqual((status, err, len(out) % 104), (0, '', 0))
+        self.assertEqual({out[at + 4] for at in range(0, len(out), 104)}, set(range(1, 9)))
+
+
+class Night(ToolTest):
+    def setUp(self):
+        super().setUp()
+        self.requests = content(os.path.join(EXAMPLES, 'night.requests'))
+        self.whole = [self.requests[at:at + 104] for at in range(0, len(self.requests) - 103, 104)]
+
+    def test_it_is_made_by_its_script(self):
+        made = subprocess.run([sys.executable, '-B', os.path.join(EXAMPLES, 'make-night')], capture_output=True, check=True)
+        self.assertEqual(made.stdout, self.requests)
+
+    def test_what_is_in_it(self):
+        kinds = collections.Counter(request[4] for request in self.whole)
+        self.assertTrue(all(kinds[kind] >= 10 for kind in range(1, 9)), kinds)
+        self.assertTrue(any(kind not in range(1, 9) for kind in kinds), kinds)
+        self.assertIn(f'{len(self.whole)} requests', content(os.path.join(EXAMPLES, 'README.md')).decode('utf-8'))
+        self.assertTrue(0 < len(self.requests) % 104)
+        isotropic = struct.pack('<6d', 2.0 ** 30, 2.0 ** -24, 2.0 ** 30, 2.0 ** -24, 0, 2.0 ** 30)
+        self.assertEqual(sum(request[4] == 2 and request[8:56] == isotropic for request in self.whole), 1)
+
+    @unittest.skipUnless(os.path.exists(ANSWERS), 'there is no examples/night.answers')
+    def test_its_answers(self):
+        status, out, err = self.run_tool('show-answers', '--json', ANSWERS)
+        self.assertEqual((status, err), (0, ''))
+        shown = [json.loads(line) for line in out.splitlines()]
+        self.assertEqual(len(shown), len(self.whole) + 1)
+        self.assertEqual([answer['event'] for answer in shown[:-1]], [struct.unpack('<I', r[:4])[0] for r in self.whole])
+        self.assertEqual([content(ANSWERS)[176 * i + 4] for i in range(len(self.whole))], [r[4] for r in self.whole])
+        codes = collections.Counter(answer['code'] for answer in shown)
+        self.assertEqual(codes, {0: len(self.whole) - 16, 1: 1, 3: 3, 4: 3, 5: 3, 6: 4, 7: 3})
+        self.assertEqual(shown[-1]['code'], 1)
+        self.assertEqual([answer['rotations'] for answer in shown if answer['settled'] is False], [25])
+        self.assertEqual({answer['kind'] for answer in shown if answer['code'] == 0},
+                         {'eigen2', 'eigen3', 'svd2', 'svd3', 'cholesky2', 'cholesky3', 'solve2', 'solve3'})
+
+
+if __name__ == '__main__':
+    unittest.main()
