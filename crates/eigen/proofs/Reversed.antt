@@ -13,6 +13,7 @@ use lib.ListN.{length}
 use lib.Ieee.{Float, Format}
 use Rattle.float.specs.Choice.{pick}
 use Rattle.float.specs.Sign.{finite, allFinite}
+use Rattle.float.proofs.Finite.{at-finite}
 use Rattle.float.proofs.Negation.{negation}
 use Rattle.float.proofs.Keys.{Keyed, keyed}
 use Rattle.matrix.specs.Places.{at}
@@ -48,18 +49,8 @@ refused-reversed f k h = record {
 
 -- ---- the answer to a run's end
 
-both-true : (a b : Bool) → a && b ≡ true → (a ≡ true) × (b ≡ true)
-both-true true b h = (refl, h)
-both-true false b h = absurd (false≢true h)
-
-at-finite : (xs : List Float) (i : ℕ) → i < length xs → allFinite xs ≡ true → finite (at xs i) ≡ true
-unfolding allFinite
-at-finite [] i h e = absurd (omega arith)
-at-finite (x ∷ xs) zero h e = both-true (finite x) (allFinite xs) e .0
-at-finite (x ∷ xs) (suc i) h e = at-finite xs i (omega arith) (both-true (finite x) (allFinite xs) e .1)
-
 diagonal-keys : (x : List Float) → allFinite x ≡ true → length x ≡ 6 → Keyed (a11 x) (a22 x) (a33 x)
-diagonal-keys x e h = keyed (a11 x) (a22 x) (a33 x) (at-finite x 0 (omega arith) e) (at-finite x 2 (omega arith) e) (at-finite x 5 (omega arith) e)
+diagonal-keys x e h = keyed (a11 x) (a22 x) (a33 x) (at-finite x e 0 (omega arith)) (at-finite x e 2 (omega arith)) (at-finite x e 5 (omega arith))
 
 -- what is asked of the ends s and q of two runs, with their axes sorted as v and w, for reversed answers
 record Ends (f : Format) (s q : State) (v w : Ranked) : Type 0 where

@@ -13,5 +13,4 @@ pub mod Units
 pub mod Rounding
 pub mod Correct
 pub mod Assembled
-pub mod Examples
 pub mod Unique

@@ -1,1 +1,3 @@
+pub mod Most
+pub mod Works
 pub mod Unique

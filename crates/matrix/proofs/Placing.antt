@@ -6,21 +6,13 @@ use mathlib.Core.List.{List}
 use Prim.Native.Nat.{ℕ, zero, suc, _+_, _*_, _≤_, _<_}
 use native.Mathlib.Nat.{suc-mul, mul-add, mul-le-mul, mul-le-mul-right, eq-or-lt-of-le}
 use native.Mathlib.Omega.{arith}
-use borrow.Author.Tests.{ltb-true, ltb-false, le-ltb}
+use borrow.Author.Tests.{le-ltb}
 use lib.Dec.{ltb}
 use lib.Ieee.{Float, Format}
 use Rattle.float.specs.Choice.{pick}
+use Rattle.float.proofs.Choice.{by-ltb}
 use Rattle.matrix.specs.Answer.{done, refused}
 use Rattle.matrix.specs.Places.{squareIndex, triangular, packedIndex, inside, readOf}
-
--- ---- what holds at both outcomes of a test
-
-pub by-ltb : {X : Type 0} (P : X → Type 0) (a b : ℕ) (x y : X) → (a < b → P x) → (b ≤ a → P y) → P (pick (ltb a b) x y)
-by-ltb P a b x y h k = go (ltb a b) refl
-  where
-    go : (t : Bool) → ltb a b ≡ t → P (pick t x y)
-    go true e = h (ltb-true a b e)
-    go false e = k (ltb-false a b e)
 
 -- ---- places below the size
 

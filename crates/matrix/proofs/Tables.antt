@@ -2,7 +2,7 @@
 use mathlib.Core.Path.{_≡_, refl, ap, _∙_}
 use mathlib.Core.List.{List, [], _∷_, _++_}
 use Prim.Native.Nat.{ℕ, zero, suc, _≤_, _<_}
-use native.Mathlib.Nat.{zero-add}
+use native.Mathlib.Nat.{zero-add, le-of-suc-le-suc}
 use native.Mathlib.Omega.{arith}
 use lib.ListN.{length, take, drop}
 use lib.Seq.{take-all, sets, sets-eq}
@@ -38,3 +38,12 @@ tabulate-at xs = tabulate-all (length xs) xs refl
 -- n numbers stored one by one from the first place on
 pub stored : (n : ℕ) (v y : List Float) → length v ≡ n → n ≤ length y → sets y 0 (tabulate n (at v)) ≡ v ++ drop n y
 stored n v y e h = rw (tabulate-all n v e, sets-eq v y 0 (omega arith), e, zero-add)
+
+-- the first numbers of a table
+pub take-tabulate : (n m : ℕ) (g : ℕ → Float) → n ≤ m → take n (tabulate m g) ≡ tabulate n g
+take-tabulate zero m g h = refl
+take-tabulate (suc n) zero g h = absurd (omega arith)
+take-tabulate (suc n) (suc m) g h = ap (λ (l : List Float). g 0 ∷ l) (take-tabulate n m (λ (i : ℕ). g (suc i)) (le-of-suc-le-suc h))
+
+pub first-tabulate : (n m : ℕ) (g : ℕ → Float) → n ≤ m → tabulate n (at (tabulate m g)) ≡ tabulate n g
+first-tabulate n m g h = tabulate-take n (tabulate m g) (rw (length-tabulate m g) h) ∙ take-tabulate n m g h

@@ -12,18 +12,19 @@ use lib.ListN.{length, getD, take, drop, replicate, length-append, length-take, 
 use lib.Seq.{length-take-le, getD-append-add, drop-append-add}
 use lib.Ieee.{Format}
 use Rattle.float.specs.Sign.{allFinite}
+use Rattle.float.proofs.Choice.{chosen, by-eqb}
+use Rattle.float.proofs.Finite.{both-true}
+use Rattle.matrix.proofs.Tables.{first-tabulate}
 use Rattle.kinds.specs.Slots.{nineUsed, threeUsed}
 use Rattle.kinds.specs.Work.{KindAnswer, refusedKind, workOf}
+use Rattle.kinds.proofs.Most.{nine-most, three-most}
+use Rattle.kinds.proofs.Works.{Sized, work-sized, Clear, work-clear, work-five}
 use Rattle.record.specs.Layout.{numberBytes, eventBytes, nineAt, threeAt, placeOf, requestSize, codeAt, answerSize}
 use Rattle.record.specs.Bytes.{numberAt, numbersFrom}
 use Rattle.record.specs.Request.{kindOf, formOf, usedFinite, judgedOf}
 use Rattle.record.specs.Answer.{recordOf, Step, stepOf}
 use Rattle.record.specs.Stream.{requestOf, answersOf}
-use Rattle.record.proofs.Choice.{chosen, by-eqb}
-use Rattle.record.proofs.Parts.{first-tabulate}
 use Rattle.record.proofs.Numbers.{numbers-length, zeros-bytes}
-use Rattle.record.proofs.Used.{nine-most, three-most}
-use Rattle.record.proofs.Works.{Sized, work-sized, Clear, work-clear, work-five}
 
 -- ---- a request of the right size
 
@@ -99,14 +100,10 @@ refused-clear f s a h =
 
 -- ---- after the record's test no kernel gives 5
 
-both : (a b : Bool) → (a && b) ≡ true → (a ≡ true) × (b ≡ true)
-both true b h = (refl, h)
-both false b h = absurd (subst (λ (t : Bool). T (not t)) h tt)
-
 pub five-is-the-test : (f : Format) (s : List ℕ) → usedFinite f (kindOf s) s ≡ true → workOf f (kindOf s) (numbersFrom f 9 nineAt s) (numbersFrom f 3 (threeAt f) s) .code ≡ 5 → ⊥
 five-is-the-test f s h =
     let kind = kindOf s in
-    let used = both (allFinite (numbersFrom f (nineUsed kind) nineAt s)) (allFinite (numbersFrom f (threeUsed kind) (threeAt f) s)) h in
+    let used = both-true (allFinite (numbersFrom f (nineUsed kind) nineAt s)) (allFinite (numbersFrom f (threeUsed kind) (threeAt f) s)) h in
     work-five f kind (numbersFrom f 9 nineAt s) (numbersFrom f 3 (threeAt f) s)
     (ap allFinite (first-tabulate (nineUsed kind) 9 (λ (i : ℕ). numberAt f (placeOf f nineAt i) s) (nine-most kind)) ∙ used .0)
     (ap allFinite (first-tabulate (threeUsed kind) 3 (λ (i : ℕ). numberAt f (placeOf f (threeAt f) i) s) (three-most kind)) ∙ used .1)

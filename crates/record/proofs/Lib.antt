@@ -1,10 +1,8 @@
-pub mod Choice
 pub mod Parts
 pub mod Words
 pub mod Zeros
 pub mod Numbers
 pub mod Used
-pub mod Works
 pub mod Records
 pub mod Answers
 pub mod Streams

@@ -33,14 +33,3 @@ first-four (a ∷ b ∷ c ∷ d ∷ s) h = refl
 
 pub four : (s : List ℕ) → length s ≡ 4 → getD s 0 0 ∷ getD s 1 0 ∷ getD s 2 0 ∷ getD s 3 0 ∷ [] ≡ s
 four s h = first-four s (omega arith) ∙ take-all 4 s (omega arith)
-
--- the first numbers of a table
-pub take-tabulate : (n m : ℕ) (g : ℕ → Float) → n ≤ m → take n (tabulate m g) ≡ tabulate n g
-take-tabulate zero m g h = refl
-take-tabulate (suc n) zero g h = absurd (omega arith)
-take-tabulate (suc n) (suc m) g h = ap (λ (l : List Float). g 0 ∷ l) (take-tabulate n m (λ (i : ℕ). g (suc i)) (le-of-suc-le-suc h))
-
-pub first-tabulate : (n m : ℕ) (g : ℕ → Float) → n ≤ m → tabulate n (at (tabulate m g)) ≡ tabulate n g
-first-tabulate zero m g h = refl
-first-tabulate (suc n) zero g h = absurd (omega arith)
-first-tabulate (suc n) (suc m) g h = ap (λ (l : List Float). g 0 ∷ l) (first-tabulate n m (λ (i : ℕ). g (suc i)) (le-of-suc-le-suc h))

@@ -1,7 +1,11 @@
 // The record step: a request's bytes to the bytes of its answer.
 use crate::bytes::put_numbers;
-use crate::request::KIND_AT;
-use crate::request::REQUEST_SIZE;
+use crate::layout::ANSWER_SIZE;
+use crate::layout::KIND_AT;
+use crate::layout::LEFT_AT;
+use crate::layout::NUMBERS_AT;
+use crate::layout::REQUEST_SIZE;
+use crate::layout::RIGHT_AT;
 use crate::request::judged;
 use kinds::work::Worked;
 use kinds::work::refused;
@@ -12,8 +16,6 @@ ghost use Prim.Native.Nat.{_≤_};
 ghost use lib.ListN.{length, take};
 ghost use lib.Ieee.{binary64};
 ghost use Rattle.record.specs.Answer.{ofWorked, recordOf, stepOf, Stepped};
-
-pub const ANSWER_SIZE: usize = 176;
 
 // The first eight bytes.
 fn put_head(out: &mut [u8], head: [u8; 8])
@@ -47,9 +49,9 @@ fn put_record(out: &mut [u8], event: [u8; 4], kind: u8, w: Worked)
     let values = w.values;
     let left = w.left;
     let right = w.right;
-    put_numbers(out, 8, &values);
-    put_numbers(out, 32, &left);
-    put_numbers(out, 104, &right);
+    put_numbers(out, NUMBERS_AT, &values);
+    put_numbers(out, LEFT_AT, &left);
+    put_numbers(out, RIGHT_AT, &right);
 }
 
 // The code, with the answer to any request in the answer slice. An answer slice of the wrong size stays as it is.

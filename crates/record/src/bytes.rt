@@ -1,4 +1,5 @@
 // Words and numbers in byte slices, the lowest byte first.
+use crate::layout::NUMBER_SIZE;
 use float::bits::of_bits;
 use float::bits::to_bits;
 ghost use mathlib.Core.Path.{_≡_};
@@ -20,7 +21,7 @@ fn word_at(s: &[u8], at: usize) -> u64
     ensures { λ r. ⌜ r ≡ wordOf (part at 8 (now (s .entry))) ⌝ }
 {
     let mut w = 0u64;
-    let mut i = 8usize;
+    let mut i = NUMBER_SIZE;
     while i > 0usize {
         i -= 1usize;
         w = w * 256 + wide(s[at + i]);
@@ -35,7 +36,7 @@ fn put_word(out: &mut [u8], at: usize, n: u64)
 {
     let mut rest = n;
     let mut i = 0usize;
-    while i < 8usize {
+    while i < NUMBER_SIZE {
         out[at + i] = (rest % 256) as u8;
         rest = rest / 256;
         i += 1usize;
@@ -58,7 +59,7 @@ pub(crate) fn put_numbers(out: &mut [u8], at: usize, xs: &[f64])
     let mut i = 0usize;
     while i < xs.len() {
         let x = xs[i];
-        put_word(out, at + 8usize * i, to_bits(x));
+        put_word(out, at + NUMBER_SIZE * i, to_bits(x));
         i += 1usize;
     }
 }

@@ -1,6 +1,12 @@
 // What a request's bytes say: the tests of 3, 4 and 5 in their order, and then its kind's answer.
 use crate::bytes::number_at;
 use crate::bytes::zeros_in;
+use crate::layout::KIND_AT;
+use crate::layout::NUMBER_SIZE;
+use crate::layout::NUMBERS_AT;
+use crate::layout::REQUEST_SIZE;
+use crate::layout::THREE_AT;
+use crate::layout::WAY_AT;
 use float::sign::all_finite;
 use kinds::slots::is_known;
 use kinds::slots::nine_used;
@@ -15,20 +21,15 @@ use matrix::codes::RESERVED;
 use matrix::codes::UNKNOWN_KIND;
 ghost use mathlib.Core.Path.{_≡_};
 ghost use mathlib.Core.Bool.{_&&_};
-ghost use Prim.Native.Nat.{_≤_};
+ghost use Prim.Native.Nat.{_≤_, _<_};
 ghost use lib.ListN.{length, take};
 ghost use lib.Ieee.{binary64};
 ghost use Rattle.float.specs.Sign.{allFinite};
 ghost use Rattle.kinds.specs.Slots.{nineUsed, threeUsed};
 ghost use Rattle.kinds.specs.Work.{worked};
-ghost use Rattle.record.specs.Layout.{nineAt, threeAt};
-ghost use Rattle.record.specs.Bytes.{numbersFrom};
+ghost use Rattle.record.specs.Layout.{nineAt, threeAt, placeOf};
+ghost use Rattle.record.specs.Bytes.{numberAt, numbersFrom};
 ghost use Rattle.record.specs.Request.{reservedZero, unusedZero, formOf, sizedFormOf, judgedOf};
-
-pub const REQUEST_SIZE: usize = 104;
-
-// Where the kind stands, in a request and in an answer.
-pub(crate) const KIND_AT: usize = 4;
 
 // Whether the reserved bytes and the numbers that the kind doesn't use are all zero bits.
 fn unused_zero(s: &[u8], kind: u8) -> bool
@@ -37,9 +38,9 @@ fn unused_zero(s: &[u8], kind: u8) -> bool
 {
     let n = nine_used(kind);
     let t = three_used(kind);
-    if zeros_in(s, 5, 8) {
-        if zeros_in(s, 8usize + 8usize * n, 80) {
-            return zeros_in(s, 80usize + 8usize * t, REQUEST_SIZE);
+    if zeros_in(s, WAY_AT, NUMBERS_AT) {
+        if zeros_in(s, NUMBERS_AT + NUMBER_SIZE * n, THREE_AT) {
+            return zeros_in(s, THREE_AT + NUMBER_SIZE * t, REQUEST_SIZE);
         }
     }
     false
@@ -69,20 +70,28 @@ pub fn form(request: &[u8]) -> u8
     form_of(request)
 }
 
+// The number in slot i: the nine, and then the three.
+fn slot(s: &[u8], i: usize) -> f64
+    requires { ⌜ (length (now s) ≡ 104) × (i < 12) ⌝ }
+    ensures { λ r. ⌜ r ≡ numberAt binary64 (placeOf binary64 nineAt i) (now (s .entry)) ⌝ }
+{
+    number_at(s, NUMBERS_AT + NUMBER_SIZE * i)
+}
+
 fn numbers9(s: &[u8]) -> [f64; 9]
     requires { ⌜ length (now s) ≡ 104 ⌝ }
     ensures { λ r. ⌜ r ≡ numbersFrom binary64 9 nineAt (now (s .entry)) ⌝ }
 {
     [
-        number_at(s, 8),
-        number_at(s, 16),
-        number_at(s, 24),
-        number_at(s, 32),
-        number_at(s, 40),
-        number_at(s, 48),
-        number_at(s, 56),
-        number_at(s, 64),
-        number_at(s, 72),
+        slot(s, 0),
+        slot(s, 1),
+        slot(s, 2),
+        slot(s, 3),
+        slot(s, 4),
+        slot(s, 5),
+        slot(s, 6),
+        slot(s, 7),
+        slot(s, 8),
     ]
 }
 
@@ -90,7 +99,7 @@ fn numbers3(s: &[u8]) -> [f64; 3]
     requires { ⌜ length (now s) ≡ 104 ⌝ }
     ensures { λ r. ⌜ r ≡ numbersFrom binary64 3 (threeAt binary64) (now (s .entry)) ⌝ }
 {
-    [number_at(s, 80), number_at(s, 88), number_at(s, 96)]
+    [slot(s, 9), slot(s, 10), slot(s, 11)]
 }
 
 // Whether the first n are finite.

@@ -1,7 +1,7 @@
 // Many records one after the other.
-use crate::answer::ANSWER_SIZE;
 use crate::answer::zanikory_answer_record;
-use crate::request::REQUEST_SIZE;
+use crate::layout::ANSWER_SIZE;
+use crate::layout::REQUEST_SIZE;
 ghost use mathlib.Core.Path.{_≡_};
 ghost use mathlib.Core.List.{_++_};
 ghost use Prim.Native.Nat.{_+_, _*_, _≤_};

@@ -12,6 +12,7 @@ use lib.ListN.{length}
 use lib.Ieee.{Float, Format, binary64, lt}
 use Rattle.float.specs.Choice.{pick}
 use Rattle.float.specs.Sign.{magnitudeOf, signBitOf, finite, allFinite}
+use Rattle.float.proofs.Finite.{at-finite}
 use Rattle.matrix.specs.Places.{at}
 use Rattle.matrix.specs.Square.{negateOf}
 use Rattle.matrix.specs.declared.square.Mat2.{Mat2}
@@ -28,7 +29,7 @@ use Rattle.svd.specs.declared.svd3x3.Svd3.{Svd3}
 use Rattle.svd.proofs.Answered.{lastOf, answered, answered2}
 use Rattle.svd.proofs.Ordered.Moves.{Moved, after, each-before, swapped, moves-if, both-of-2, first-of-3, outer-of-3, last-of-3}
 use Rattle.svd.proofs.Ordered.Falling.{Descending, below2, below3, sorted2-descends, sorted3-descends}
-use Rattle.svd.proofs.Ordered.Finite.{at-finite, magnitude-finite, magnitude-unsigned, work-nine}
+use Rattle.svd.proofs.Ordered.Finite.{magnitude-finite, magnitude-unsigned, work-nine}
 use Rattle.svd.proofs.svd2x2.svd.Reads as svd2x2-svd
 use Rattle.svd.proofs.svd3x3.svd.Reads as svd3x3-svd
 

@@ -1,4 +1,4 @@
--- What an answer with code 0 puts in order is finite: a finite list is so at each place, a matrix keeps its nine places, and a magnitude is finite where its number is. Assumes nothing.
+-- What an answer with code 0 puts in order is finite: a matrix keeps its nine places, and a magnitude is finite where its number is. Assumes nothing.
 use mathlib.Core.Path.{_≡_, refl, subst⁻¹}
 use mathlib.Core.Bool.{Bool, true, false, _&&_, false≢true}
 use mathlib.Core.List.{List, [], _∷_}
@@ -15,18 +15,6 @@ use Rattle.eigen.proofs.Run.{ran}
 use Rattle.svd.specs.Polar.{Sides}
 use Rattle.svd.specs.Pairs.{appliedOf}
 use Rattle.svd.specs.Svd3x3.{State, settledOf, stepOf, workOf}
-
--- ---- places of a finite list
-
-both-true : (a b : Bool) → a && b ≡ true → (a ≡ true) × (b ≡ true)
-both-true true b h = (refl, h)
-both-true false b h = absurd (false≢true h)
-
-pub at-finite : (xs : List Float) → allFinite xs ≡ true → (i : ℕ) → i < length xs → finite (at xs i) ≡ true
-unfolding allFinite
-at-finite [] e i h = absurd (omega arith)
-at-finite (x ∷ xs) e zero h = both-true (finite x) (allFinite xs) e .0
-at-finite (x ∷ xs) e (suc i) h = at-finite xs (both-true (finite x) (allFinite xs) e .1) i (omega arith)
 
 -- ---- magnitudes
 

@@ -6,7 +6,7 @@ use native.Mathlib.Omega.{arith}
 use lib.ListN.{length, drop}
 use lib.Seq.{drop-length}
 use Rattle.float.specs.Sign.{allFinite}
-use Rattle.float.proofs.Finite.{passes, fails}
+use Rattle.float.proofs.Finite.{goes-on, stops}
 use Rattle.float.proofs.sign.all_finite.Statement.{statement}
 use Rattle.float.proofs.sign.all_finite.Tie as tie
 
@@ -38,13 +38,13 @@ loop-again : tie.Need-loop-again Inv-loop μ-loop
 loop-again c =
     let l = c .before .before .before .before .loop in
     let s = c .before .before .before .before .before .before .args .xs .now in
-    (omega arith, sym (passes s (l .i) (omega arith) (sym (c .before .is-finite .ensures) ∙ c .if1 .taken)) ∙ l .inv .1)
+    (omega arith, sym (goes-on s (l .i) (omega arith) (sym (c .before .is-finite .ensures) ∙ c .if1 .taken)) ∙ l .inv .1)
 
 returns : tie.Need-returns Inv-loop μ-loop
 returns c =
     let l = c .before .before .before .before .loop in
     let s = c .before .before .before .before .before .before .args .xs .now in
-    sym (fails s (l .i) (omega arith) (sym (c .before .is-finite .ensures) ∙ c .if1 .left)) ∙ l .inv .1
+    sym (stops s (l .i) (omega arith) (sym (c .before .is-finite .ensures) ∙ c .if1 .left)) ∙ l .inv .1
 
 returns-2 : tie.Need-returns-2 Inv-loop μ-loop
 unfolding allFinite

@@ -6,7 +6,7 @@ use Prim.Native.Nat.{ℕ, _+_, _*_, _≤_}
 use native.Mathlib.Omega.{arith}
 use Rattle.kinds.specs.Slots.{nineUsed}
 use Rattle.record.specs.Bytes.{zeroFrom}
-use Rattle.record.proofs.Used.{nine-most, three-most}
+use Rattle.kinds.proofs.Most.{nine-most, three-most}
 use Rattle.record.proofs.request.unused_zero.Statement.{statement}
 use Rattle.record.proofs.request.unused_zero.Tie as tie
 

@@ -7,7 +7,7 @@ use native.Mathlib.Omega.{arith}
 use lib.ListN.{take}
 use Rattle.float.specs.Sign.{allFinite}
 use Rattle.kinds.specs.Slots.{nineUsed}
-use Rattle.record.proofs.Used.{nine-most, three-most}
+use Rattle.kinds.proofs.Most.{nine-most, three-most}
 use Rattle.record.proofs.request.used_finite.Statement.{statement}
 use Rattle.record.proofs.request.used_finite.Tie as tie
 

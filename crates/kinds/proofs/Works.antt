@@ -10,6 +10,7 @@ use lib.ListN.{length}
 use lib.Ieee.{Float, Format, sub, mul, div, le}
 use Rattle.float.specs.Constants.{zeroF}
 use Rattle.float.specs.Sign.{allFinite}
+use Rattle.float.proofs.Choice.{chosen, taken, by-eqb}
 use Rattle.matrix.specs.Answer.{zeros}
 use Rattle.matrix.specs.Places.{at}
 use Rattle.cholesky.specs.Pivot.{PivotAnswer, pivotOf, hasRoot}
@@ -21,9 +22,8 @@ use Rattle.eigen.specs.Eigen3x3 as eigen3
 use Rattle.svd.specs.Svd2x2.{Svd2Answer, sides2Of, factors2Of, refusedSvd2, judgedSvd2, svd2Of}
 use Rattle.svd.specs.Svd3x3.{SvdAnswer, factorsOf, refusedSvd, judgedSvd, svdOf}
 use Rattle.svd.specs.Svd3x3 as svd3
 use Rattle.kinds.specs.Slots.{nineUsed, threeUsed}
 use Rattle.kinds.specs.Work.{KindAnswer, firstOf, refusedKind, fromEigen2, fromEigen3, fromSvd2, fromSvd3, fromFactor, fromSolved, workOf}
-use Rattle.record.proofs.Choice.{chosen, taken, by-eqb}
 
 -- ---- kind by kind
 

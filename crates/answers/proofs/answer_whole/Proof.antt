@@ -1,0 +1,33 @@
+-- A large buffer has room for 372 answers, and there are no more requests than that. Assumes nothing.
+use borrow.Author.Needs.{needs}
+use mathlib.Core.Path.{_≡_, _∙_}
+use mathlib.Core.List.{List}
+use Prim.Native.Nat.{ℕ, _/_, _≤_}
+use native.Mathlib.Omega.{arith}
+use lib.ListN.{length, take, length-take}
+use lib.Ieee.{binary64}
+use Rattle.record.specs.Stream.{streamOf}
+use Rattle.answers.proofs.answer_whole.Statement.{statement}
+use Rattle.answers.proofs.answer_whole.Tie as tie
+
+counted : (total : ℕ) (buf out : List ℕ) → length buf ≡ 65536 → length out ≡ 65536 → total ≤ 38688 → streamOf binary64 (take total buf) out .count ≡ total / 104
+unfolding streamOf
+counted total buf out h k l = simp length-take (omega arith)
+
+slice-aggregate-answer-all : tie.Need-slice-aggregate-answer-all
+slice-aggregate-answer-all c = simp length-take (omega arith)
+
+answer-all-requires : tie.Need-answer-all-requires
+answer-all-requires c κs = search needs
+
+same-length : tie.Need-same-length
+same-length c = search needs
+
+returns : tie.Need-returns
+returns c =
+    let a = c .before .before .before .before .before .before .before .args in
+    c .before .before .answer-all .ensures .0 ∙ counted (a .total) (a .buf .now) (a .out .now) (omega arith) (omega arith) (omega arith)
+
+pub answer-whole-spec : {M : Type 1} → statement M
+answer-whole-spec =
+    tie.close (tie.spec slice-aggregate-answer-all answer-all-requires same-length returns)

@@ -1,0 +1,16 @@
+-- What the program's buffers and writes keep to. Definitions only.
+use mathlib.Core.Path.{_≡_}
+use mathlib.Core.List.{List}
+use Prim.Native.Nat.{ℕ, _≤_}
+use lib.ListN.{length}
+use Rattle.answers.specs.declared.output.Write.{Write}
+use Rattle.answers.specs.declared.output.Write.the-variants.{Moved, Failed}
+
+-- a large buffer of the kit's
+abbrev pub Large : List ℕ → Type 0
+Large s = length s ≡ 65536
+
+-- a write moves no more than it was handed
+abbrev pub Within : ℕ → Write → Type 0
+Within most (Moved n) = n ≤ most
+Within most Failed = Unit {0}
