@@ -1,0 +1,4 @@
+pub mod Values
+pub mod Promise
+pub mod Unique
+pub mod Kept

@@ -1,0 +1,37 @@
+-- The machine value of each type that the walks pass, and the answer that all three functions promise. Definitions only.
+use mir.Val.{Val}
+use lib.Ieee.{binary64}
+use denote.Struct.Laws as struct
+use denote.Enum.Laws as enum
+use Rattle.matrix.specs.Symmetric.{sym3Answer}
+use Rattle.matrix.specs.declared.symmetric.Sym3.{Sym3}
+use Rattle.matrix.specs.declared.symmetric.Sym3Answer.{Sym3Answer}
+use Rattle.matrix.proofs.symmetric.Sym3 as S
+use Rattle.matrix.proofs.symmetric.Sym3.Laws as S′
+use Rattle.matrix.proofs.symmetric.Sym3Answer as U
+use Rattle.matrix.proofs.symmetric.Sym3Answer.Laws as U′
+use Rattle.eigen.specs.Rotation.{turn}
+use Rattle.eigen.specs.declared.pairs.Pair.{Pair}
+use Rattle.eigen.specs.declared.rotation.Rotation.{Rotation}
+use Rattle.eigen.proofs.pairs.Pair as P
+use Rattle.eigen.proofs.pairs.Pair.Laws as P′
+use Rattle.eigen.proofs.rotation.Rotation as R
+use Rattle.eigen.proofs.rotation.Rotation.Laws as R′
+use Rattle.lent.specs.InPlace.{rotatedOf}
+
+-- of a matrix, a pair, a rotation and an answer
+abbrev pub sv : Sym3 → Val
+sv = struct.val S.the-type S′.the-laws
+
+abbrev pub pv : Pair → Val
+pv = enum.val P.the-type P′.the-laws
+
+abbrev pub rv : Rotation → Val
+rv = struct.val R.the-type R′.the-laws
+
+abbrev pub uv : Sym3Answer → Val
+uv = struct.val U.the-type U′.the-laws
+
+-- what the definition gives for a matrix
+abbrev pub answered : Sym3 → Pair → Rotation → Sym3Answer
+answered a p r = sym3Answer (rotatedOf binary64 p (turn r) (a .«data»))

@@ -1,0 +1,74 @@
+-- Each return is one outcome of the three tests, in the order of the definition; the rotation itself is the one of `apply_rotation`. Assumes nothing.
+use mathlib.Core.Path.{ap, _∙_}
+use borrow.Author.Needs.{needs}
+use Rattle.float.specs.Sign.{allFinite}
+use Rattle.float.proofs.Branches.{passes, fails}
+use Rattle.matrix.specs.declared.symmetric.Sym3.{Sym3}
+use Rattle.lent.specs.InPlace.{rotatedOf}
+use Rattle.lent.proofs.rotated.Statement.{statement}
+use Rattle.lent.proofs.rotated.Tie as tie
+
+slice-aggregate-all-finite : tie.Need-slice-aggregate-all-finite
+slice-aggregate-all-finite c = search needs
+
+all-finite-requires : tie.Need-all-finite-requires
+all-finite-requires c κs = search needs
+
+returns : tie.Need-returns
+unfolding rotatedOf
+returns c = simp (fails (c .before .all-finite .ensures) (c .if1 .taken))
+
+slice-aggregate-all-finite-2 : tie.Need-slice-aggregate-all-finite-2
+slice-aggregate-all-finite-2 c = search needs
+
+all-finite-requires-2 : tie.Need-all-finite-requires-2
+all-finite-requires-2 c κs = search needs
+
+returns-2 : tie.Need-returns-2
+unfolding rotatedOf
+returns-2 c =
+    let past1 = c .before .before .before in
+    simp (passes (past1 .before .all-finite .ensures) (past1 .if1 .left), fails (c .before .all-finite2 .ensures) (c .if2 .taken))
+
+apply-rotation-requires : tie.Need-apply-rotation-requires
+apply-rotation-requires c κs = search needs
+
+slice-aggregate-all-finite-3 : tie.Need-slice-aggregate-all-finite-3
+slice-aggregate-all-finite-3 c = search needs
+
+all-finite-requires-3 : tie.Need-all-finite-requires-3
+all-finite-requires-3 c κs = search needs
+
+returns-3 : tie.Need-returns-3
+unfolding rotatedOf
+returns-3 c =
+    let applied = c .before .before .before .before in
+    let past2 = applied .before in
+    let past1 = past2 .before .before .before in
+    let tested = c .before .all-finite3 .ensures ∙ ap (λ (m : Sym3). allFinite (m .«data»)) (applied .apply-rotation .ensures) in
+    simp (passes (past1 .before .all-finite .ensures) (past1 .if1 .left), passes (past2 .before .all-finite2 .ensures) (past2 .if2 .left), fails tested (c .if3 .taken))
+
+returns-4 : tie.Need-returns-4
+unfolding rotatedOf
+returns-4 c =
+    let applied = c .before .before .before .before in
+    let past2 = applied .before in
+    let past1 = past2 .before .before .before in
+    let tested = c .before .all-finite3 .ensures ∙ ap (λ (m : Sym3). allFinite (m .«data»)) (applied .apply-rotation .ensures) in
+    rw (passes (past1 .before .all-finite .ensures) (past1 .if1 .left), passes (past2 .before .all-finite2 .ensures) (past2 .if2 .left), passes tested (c .if3 .left)) (ap (λ (m : Sym3). record { code = 0; matrix = m }) (applied .apply-rotation .ensures))
+
+pub rotated-spec : {M : Type 1} → statement M
+rotated-spec =
+    tie.close
+    (tie.spec
+    slice-aggregate-all-finite
+    all-finite-requires
+    returns
+    slice-aggregate-all-finite-2
+    all-finite-requires-2
+    returns-2
+    apply-rotation-requires
+    slice-aggregate-all-finite-3
+    all-finite-requires-3
+    returns-3
+    returns-4)
