@@ -1,5 +1,5 @@
 -- Any two answers within the promise of a public function are equal. Each promise is read from the source, as a caller reads it. Assumes nothing.
-use mathlib.Core.Path.{_≡_, sym, _∙_}
+use mathlib.Core.Path.{sym, _∙_}
 use mathlib.Core.List.{List}
 use Prim.Native.Nat.{ℕ}
 use lib.Ieee.{Float, binary64}

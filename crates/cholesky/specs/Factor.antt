@@ -1,5 +1,4 @@
 -- The factor L of a symmetric matrix A = L L', packed as A is, with the writes so far standing where a pivot step answers no root. Definitions only.
-use mathlib.Core.Bool.{Bool}
 use mathlib.Core.List.{List, [], _∷_}
 use Prim.Native.Nat.{ℕ}
 use lib.Dec.{eqb}

@@ -1,5 +1,4 @@
 -- The solution x of L L' x = b by forward and backward substitution. Definitions only.
-use mathlib.Core.Bool.{Bool}
 use mathlib.Core.List.{List, [], _∷_}
 use Prim.Native.Nat.{ℕ}
 use lib.Dec.{leb, eqb}

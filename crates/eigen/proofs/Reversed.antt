@@ -5,18 +5,17 @@ pub mod Steps
 pub mod Order
 pub mod Wiring
 use mathlib.Core.Path.{_≡_, refl, sym, _∙_, subst₂}
-use mathlib.Core.Bool.{Bool, true, false, _&&_, false≢true}
+use mathlib.Core.Bool.{Bool, true, false}
 use mathlib.Core.List.{List, [], _∷_}
-use Prim.Native.Nat.{ℕ, zero, suc, _<_}
+use Prim.Native.Nat.{ℕ, _<_}
 use native.Mathlib.Omega.{arith}
 use lib.ListN.{length}
 use lib.Ieee.{Float, Format}
 use Rattle.float.specs.Choice.{pick}
-use Rattle.float.specs.Sign.{finite, allFinite}
+use Rattle.float.specs.Sign.{allFinite}
 use Rattle.float.proofs.Finite.{at-finite}
 use Rattle.float.proofs.Negation.{negation}
 use Rattle.float.proofs.Keys.{Keyed, keyed}
-use Rattle.matrix.specs.Places.{at}
 use Rattle.eigen.specs.Pairs.{a11, a22, a33}
 use Rattle.eigen.specs.Order.{Ranked}
 use Rattle.eigen.specs.Eigen3x3.{State, EigenAnswer, settledOf, rankedOf, refusedEigen, judgedEigen, endOf, workOf, startOf, eigenOf}

@@ -1,5 +1,5 @@
 -- The laws of `run`, for any step and any test: each follows the turns one by one. Assumes nothing.
-use mathlib.Core.Path.{_≡_, refl, sym, ap, _∙_}
+use mathlib.Core.Path.{_≡_, refl, sym, ap, _∙_, subst⁻¹}
 use mathlib.Core.Bool.{Bool, true, false}
 use mathlib.Core.Logic.{_⊎_, inl, inr}
 use Prim.Native.Nat.{ℕ, zero, suc, _+_, _-_, _≤_, _<_}
@@ -83,6 +83,17 @@ module _ {S : Type 0} (step : S → S) (done : S → Bool) where
         let r = ran k s in
         let e : r .0 ≡ count (run step done k s) = omega (arith, ap count (r .1 .stands), count-after (r .0) s) in
         rw e at (r .1)
+
+-- ---- what each step keeps, the run keeps
+
+module _ {S : Type 0} (step : S → S) (done : S → Bool) (P : S → Type 0) (kept : (s : S) → P (step s)) where
+  after-keeps : (n : ℕ) (s : S) → P s → P (after step done n s)
+  unfolding after
+  after-keeps zero s p = p
+  after-keeps (suc n) s p = after-keeps n (step s) (kept s)
+
+  pub run-keeps : (k : ℕ) (s : S) → P s → P (run step done k s)
+  run-keeps k s p = let r = ran step done k s in subst⁻¹ P (r .1 .stands) (after-keeps (r .0) s p)
 
 -- ---- a map that keeps steps and the test keeps the run
 

@@ -1,8 +1,8 @@
 -- The 3x3 call: states, the run of at most 25 rotations, and the answer. Definitions only.
-use mathlib.Core.Bool.{Bool, true, false}
+use mathlib.Core.Bool.{Bool, false}
 use mathlib.Core.List.{List, [], _∷_}
 use Prim.Native.Nat.{ℕ, _+_}
-use lib.Ieee.{Float, Format, binary64, lt}
+use lib.Ieee.{Float, Format, lt}
 use Rattle.float.specs.Choice.{pick}
 use Rattle.float.specs.Constants.{limitF}
 use Rattle.float.specs.Sign.{magnitudeOf, allFinite}

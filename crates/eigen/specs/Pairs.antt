@@ -1,7 +1,5 @@
 -- The three pairs of a symmetric 3x3, and what a rotation of one makes of the matrix and of the vectors. Definitions only.
-use mathlib.Core.Bool.{Bool}
 use mathlib.Core.List.{List, [], _∷_}
-use Prim.Native.Nat.{ℕ}
 use lib.Ieee.{Float, Format, add, sub, mul, div, lt}
 use Rattle.float.specs.Choice.{pick}
 use Rattle.float.specs.Constants.{zeroF, oneF}

@@ -1,5 +1,5 @@
 -- The rotation that takes the number apq beside the diagonal away, from it and the two diagonal numbers app and aqq. Definitions only.
-use mathlib.Core.Bool.{Bool, not}
+use mathlib.Core.Bool.{Bool}
 use lib.Ieee.{Float, Format, add, sub, mul, div, lt, eq}
 use Rattle.float.specs.Choice.{pick}
 use Rattle.float.specs.Constants.{zeroF, oneF, twoF, halfF, epsilonF, halfRootF}

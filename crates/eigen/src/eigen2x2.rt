@@ -10,7 +10,7 @@ use matrix::symmetric::Sym2;
 ghost use mathlib.Core.Path.{_≡_};
 ghost use lib.Ieee.{binary64};
 ghost use Rattle.eigen.specs.Rotation.{turn};
-ghost use Rattle.eigen.specs.Eigen2x2.{axes2, ofAxes2, kept2, exchanged2, axesOf, solved2, eigen2, refused2, judged2, eigen2Of, eigvals2, refusedValues2, judgedValues2, eigvals2Of};
+ghost use Rattle.eigen.specs.Eigen2x2.{axes2, ofAxes2, axesOf, solved2, eigen2, refused2, judged2, eigen2Of, eigvals2, refusedValues2, judgedValues2, eigvals2Of};
 
 // Two values and their vectors.
 pub struct Axes2 {

@@ -27,7 +27,7 @@ use Rattle.kinds.specs.Work.{KindAnswer, firstOf, refusedKind, fromEigen
 
 -- ---- kind by kind
 
-each-kind : (P : KindAnswer → Type 0) (f : Format) (kind : ℕ) (nine three : List Float)
+pub each-kind : (P : KindAnswer → Type 0) (f : Format) (kind : ℕ) (nine three : List Float)
     → (kind ≡ 1 → P (fromEigen2 f (eigen2Of f (firstOf 3 nine))))
     → (kind ≡ 2 → P (fromEigen3 f (eigenOf f (firstOf 6 nine))))
     → (kind ≡ 3 → P (fromSvd2 f (svd2Of f (firstOf 4 nine))))

@@ -1,27 +1,23 @@
 -- What a checked rotation keeps, whatever the rotation: each side of each test keeps it. Assumes nothing.
 use mathlib.Core.Path.{_≡_, refl}
-use mathlib.Core.Bool.{Bool, true, false}
+use mathlib.Core.Bool.{true}
 use mathlib.Core.List.{List, [], _∷_}
 use lib.Ieee.{Float, Format}
-use Rattle.float.specs.Choice.{pick}
 use Rattle.float.specs.Sign.{allFinite}
+use Rattle.float.proofs.Choice.{chosen, by-test}
 use Rattle.matrix.specs.Answer.{Answer}
 use Rattle.eigen.specs.Rotation.{Turn}
 use Rattle.eigen.specs.Pairs.{appliedOf}
 use Rattle.eigen.specs.declared.pairs.Pair.{Pair}
 use Rattle.lent.specs.InPlace.{rotatedOf}
 
--- a choice has what both of its sides have, the first where the test holds
-picked : {A : Type 0} (P : A → Type 0) (t : Bool) {x y : A} → (t ≡ true → P x) → P y → P (pick t x y)
-picked P true x y = x refl
-picked P false x y = y
-
 module _ (f : Format) (p : Pair) (r : Turn) (a : List Float) where
   -- of any property of an answer: it is enough that the rotated numbers, if finite, and the old ones with 5 and 7 have it
   each : (P : Answer (List Float) → Type 0) → (allFinite (appliedOf f p r a) ≡ true → P (record { code = 0; value = appliedOf f p r a }))
       → P (record { code = 5; value = a }) → P (record { code = 7; value = a }) → P (rotatedOf f p r a)
   unfolding rotatedOf
-  each P new on5 on7 = picked P (allFinite a) (λ _. picked P (allFinite (r .c ∷ r .s ∷ r .t ∷ [])) (λ _. picked P (allFinite (appliedOf f p r a)) new on7) on5) on5
+  each P new on5 on7 =
+      chosen P (allFinite a) _ _ (chosen P (allFinite (r .c ∷ r .s ∷ r .t ∷ [])) _ _ (by-test P (allFinite (appliedOf f p r a)) _ _ new (λ _. on7)) on5) on5
 
   -- refused, the numbers are the old ones
   pub unchanged : (rotatedOf f p r a .code ≡ 0 → ⊥) → rotatedOf f p r a .value ≡ a

@@ -2,17 +2,17 @@
 use mathlib.Core.Path.{_≡_, refl, sym, ap, _∙_}
 use mathlib.Core.Bool.{Bool, true, false, not, _&&_}
 use mathlib.Core.List.{List, [], _∷_}
-use Prim.Native.Nat.{ℕ, _<_}
+use Prim.Native.Nat.{ℕ}
 use native.Mathlib.Omega.{arith}
 use lib.Dec.{eqb}
 use lib.ListN.{length}
-use lib.Ieee.{Float, Format}
+use lib.Ieee.{Format}
 use Rattle.float.specs.Choice.{pick}
 use Rattle.float.specs.Sign.{allFinite}
 use Rattle.float.proofs.Finite.{both-true}
 use Rattle.matrix.proofs.Tables.{first-tabulate}
 use Rattle.kinds.specs.Slots.{knownKind, nineUsed, threeUsed}
-use Rattle.kinds.specs.Work.{KindAnswer, firstOf, refusedKind, workOf}
+use Rattle.kinds.specs.Work.{KindAnswer, refusedKind, workOf}
 use Rattle.kinds.proofs.Most.{nine-most, three-most}
 use Rattle.record.specs.Layout.{nineAt, threeAt, placeOf, requestSize, answerSize}
 use Rattle.record.specs.Bytes.{numberAt, numbersFrom}

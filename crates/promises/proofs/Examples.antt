@@ -1,8 +1,8 @@
 -- The definitions give every row's answer: by computation. Assumes nothing.
 use mathlib.Core.Path.{_≡_, refl}
 use mathlib.Core.List.{map}
-use lib.Ieee.{add, sub, mul, div, lt, le, eq, neg, ofBits, toBits}
-use Rattle.float.specs.Root.{wholeRoot, rootOfSquare, rootOf}
+use lib.Ieee.{add, sub, mul, div, lt, le, eq, ofBits, toBits}
+use Rattle.float.specs.Root.{rootOf}
 use Rattle.float.specs.Sign.{magnitudeOf, signBitOf, signumOf, finite, allFinite}
 use Rattle.cholesky.specs.Pivot.{pivotOf}
 use Rattle.cholesky.specs.Factor.{steps2Of, steps3Of, factor2Of, factor3Of}

@@ -10,14 +10,14 @@ use lib.Ieee.{Float, Format, sub, mul, div, le}
 use Rattle.float.specs.Choice.{pick}
 use Rattle.float.specs.Constants.{zeroF}
 use Rattle.float.specs.Root.{rootOf}
-use Rattle.float.specs.Sign.{finite, allFinite}
-use Rattle.float.proofs.Choice.{taken, by-eqb}
-use Rattle.float.proofs.Finite.{both-true}
+use Rattle.float.specs.Sign.{allFinite}
+use Rattle.float.proofs.Choice.{taken, left-out, by-eqb}
+use Rattle.float.proofs.Finite.{both-true, all-finite-append}
 use Rattle.matrix.specs.Answer.{zeros}
 use Rattle.matrix.specs.Places.{at}
-use Rattle.cholesky.specs.Pivot.{PivotAnswer, pivotOf}
+use Rattle.cholesky.specs.Pivot.{pivotOf}
 use Rattle.cholesky.specs.Factor.{FactorAnswer, withRoot, plain, second2Of, rowThreeOf, second3Of, steps2Of, steps3Of, judgedFactor, factor2Of, factor3Of}
-use Rattle.cholesky.specs.Solve.{SolvedAnswer, refusedSolved, judgedSolved, solution2Of, solution3Of, factorAndSolve2Of, factorAndSolve3Of}
+use Rattle.cholesky.specs.Solve.{SolvedAnswer, judgedSolved, solution2Of, solution3Of, factorAndSolve2Of, factorAndSolve3Of}
 use Rattle.eigen.specs.Eigen2x2.{Eigen2Answer, solved2, judged2, eigen2Of}
 use Rattle.eigen.specs.Eigen3x3.{EigenAnswer, rankedOf, startOf, judgedEigen, endOf, eigenOf}
 use Rattle.eigen.specs.Eigen3x3 as eigen3
@@ -27,20 +27,6 @@ use Rattle.svd.specs.Svd3x3 as svd3
 use Rattle.kinds.specs.Slots.{knownKind, nineUsed, threeUsed}
 use Rattle.kinds.specs.Work.{KindAnswer, firstOf, fromFactor, workOf}
 use Rattle.promises.specs.Conditions.{pivots2Of, pivots3Of, pivotsOf, oneAtMostZero, eigen3Numbers, svd3Numbers, numbersOf}
-
-left-out : {A : Type 0} (P : A → Type 0) (t : Bool) (a b : A) → t ≡ false → P b → P (pick t a b)
-left-out P t a b e h = rw e h
-
--- ---- lists of finite numbers one after the other
-
-both-assoc : (a b c : Bool) → a && (b && c) ≡ (a && b) && c
-both-assoc true b c = refl
-both-assoc false b c = refl
-
-pub all-finite-append : (xs ys : List Float) → allFinite (xs ++ ys) ≡ allFinite xs && allFinite ys
-unfolding allFinite
-all-finite-append [] ys = refl
-all-finite-append (x ∷ xs) ys = ap (λ (t : Bool). finite x && t) (all-finite-append xs ys) ∙ both-assoc (finite x) (allFinite xs) (allFinite ys)
 
 -- ---- 7 after the work: what a chain of finite tests answers
 

@@ -4,3 +4,4 @@ pub mod Rows
 pub mod Codes
 pub mod Signs
 pub mod Wiring
+pub mod Vouched

@@ -6,7 +6,7 @@ use Prim.Native.Nat.{ℕ, zero, suc, _+_, _-_, _*_, _/_, _%_, _^_, _≤_, _<_}
 use native.Mathlib.Nat.{pow-zero, pow-suc, mul-add, mul-le-mul-left}
 use native.Mathlib.Omega.{arith}
 use borrow.Author.Tests.{le-leb, lt-leb}
-use lib.Dec.{eqb, leb}
+use lib.Dec.{eqb}
 use lib.ListN.{length}
 use lib.Ieee.{Float, nan, inf, Format, binary32, binary64, neg, odd, prec, low, ones, hid, top, ofFields, ofBits}
 use Rattle.float.proofs.Choice.{by-ltb}

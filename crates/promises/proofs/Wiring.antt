@@ -1,5 +1,5 @@
 -- Reversed wiring at the record: the turned request says the same of its form, its six numbers are the negated ones, and of the kernel's answers the theorem `reversed` tells. Assumes nothing.
-use mathlib.Core.Path.{_≡_, refl, sym, ap, _∙_, subst, subst₂}
+use mathlib.Core.Path.{_≡_, refl, sym, ap, _∙_, subst}
 use mathlib.Core.Bool.{Bool, true, false, _&&_}
 use mathlib.Core.List.{List, [], _∷_, _++_}
 use Prim.Native.Nat.{ℕ, zero, suc, _+_, _-_, _*_, _≤_, _<_}
@@ -10,10 +10,10 @@ use contract.Lifetimes.{Lfts}
 use lib.Dec.{eqb}
 use lib.ListN.{length, getD, take, drop, length-append, length-take, length-drop}
 use lib.Seq.{take-all, take-suc, take-append-seam, drop-append-add, drop-drop, length-take-le}
-use lib.Ieee.{Float, nan, inf, fin, Format, binary32, binary64, neg, ofBits}
+use lib.Ieee.{Float, Format, binary32, binary64, neg, ofBits}
 use Rattle.float.specs.Choice.{pick}
-use Rattle.float.specs.Sign.{finite, allFinite}
-use Rattle.float.proofs.Choice.{by-eqb}
+use Rattle.float.specs.Sign.{allFinite}
+use Rattle.float.proofs.Finite.{finite-neg}
 use Rattle.matrix.specs.Places.{at, tabulate}
 use Rattle.matrix.proofs.Tables.{at-tabulate, tabulate-same, first-tabulate}
 use Rattle.eigen.specs.Eigen3x3.{EigenAnswer, eigenOf}
@@ -22,13 +22,13 @@ use Rattle.eigen.proofs.Reversed.{reversed}
 use Rattle.kinds.specs.Work.{KindAnswer, firstOf, markOf, fromEigen3, refusedKind, workOf}
 use Rattle.record.specs.Layout.{numberBytes, nineAt, threeAt, placeOf, requestSize}
 use Rattle.record.specs.Bytes.{wordOf, part, numberAt, numbersFrom, allZero, zeroFrom}
-use Rattle.record.specs.Request.{kindOf, reservedZero, unusedZero, formOf, usedFinite, judgedOf}
+use Rattle.record.specs.Request.{kindOf, reservedZero, formOf, usedFinite, judgedOf}
 use Rattle.record.specs.Answer.{recordOf, answeredOf}
 use Rattle.record.proofs.Words.{word-below}
 use Rattle.record.proofs.Answers.{code-in-place}
 use Rattle.record.proofs.Streams.{stepped}
 use Rattle.record.proofs.answer.zanikory_answer_record.Reads as answer-record
-use Rattle.promises.specs.Wiring.{turnedByte, turnedNumber, turnedNumbers, turned, Bytes, ReversedRecords}
+use Rattle.promises.specs.Wiring.{turnedNumber, turnedNumbers, turned, Bytes, ReversedRecords}
 use Rattle.promises.proofs.Signs.{number-turned}
 
 -- ---- one number
@@ -133,12 +133,6 @@ refused-alike f k n = record { codes = refl; counts = refl; marks = refl; values
 
 eigen-alike : (f : Format) (r q : EigenAnswer) → Reversed r q → Alike (fromEigen3 f r) (fromEigen3 f q)
 eigen-alike f r q h = record { codes = h .codes; counts = h .counts; marks = ap markOf (h .marks); values = h .values; columns = h .columns }
-
-finite-neg : (x : Float) → finite (neg x) ≡ finite x
-unfolding finite neg
-finite-neg nan = refl
-finite-neg (inf s) = refl
-finite-neg (fin s m e) = refl
 
 all-finite-neg : (n : ℕ) (g : ℕ → Float) → allFinite (tabulate n (λ (i : ℕ). neg (g i))) ≡ allFinite (tabulate n g)
 unfolding allFinite

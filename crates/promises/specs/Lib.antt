@@ -1,3 +1,4 @@
 pub mod Examples
 pub mod Conditions
 pub mod Wiring
+pub mod Vouched

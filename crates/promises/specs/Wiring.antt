@@ -5,7 +5,7 @@ use Prim.Native.Nat.{ℕ, zero, suc, _+_, _-_, _%_, _<_}
 use lib.ListN.{getD, take, drop}
 use lib.Ieee.{Format}
 use Rattle.eigen.specs.Reversed.{AllDiffer, ValuesExchanged, ColumnsExchanged}
-use Rattle.record.specs.Layout.{numberBytes, nineAt, codeAt}
+use Rattle.record.specs.Layout.{numberBytes, nineAt}
 use Rattle.record.specs.Request.{judgedOf}
 use Rattle.record.specs.Answer.{answeredOf}
 

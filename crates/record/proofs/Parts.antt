@@ -1,14 +1,11 @@
 -- Parts of a list: what one more element, one more store or one more number does to them. Assumes nothing.
 use mathlib.Core.Path.{_≡_, refl, sym, ap, _∙_}
 use mathlib.Core.List.{List, [], _∷_, _++_}
-use Prim.Native.Nat.{ℕ, zero, suc, _+_, _≤_, _<_}
+use Prim.Native.Nat.{ℕ, _+_, _≤_, _<_}
 use native.Mathlib.Omega.{arith}
-use native.Mathlib.Nat.{le-of-suc-le-suc}
 use native.Mathlib.Numerals.{add-one}
 use lib.ListN.{length, getD, take, set}
 use lib.Seq.{take-all, take-suc, take-suc-set, drop-cons}
-use lib.Ieee.{Float}
-use Rattle.matrix.specs.Places.{at, tabulate}
 use Rattle.record.specs.Bytes.{part}
 
 -- a part begins with its first byte
@@ -16,12 +13,12 @@ pub part-more : (a n m : ℕ) (s : List ℕ) → a < length s → n ≡ m + 1 �
 part-more a n m s h e = rw (e, add-one, add-one, drop-cons s a 0)
 
 -- a store behind what is written
-pub stored : (l : List ℕ) (i j x : ℕ) → j ≡ i + 1 → i < length l → take j (set l i x) ≡ take i l ++ (x ∷ [])
-stored l i j x e h = rw (e, add-one, take-suc-set l i x h)
+pub stored-behind : (l : List ℕ) (i j x : ℕ) → j ≡ i + 1 → i < length l → take j (set l i x) ≡ take i l ++ (x ∷ [])
+stored-behind l i j x e h = rw (e, add-one, take-suc-set l i x h)
 
 -- a byte copied behind those that are
 pub copied : (l m : List ℕ) (i : ℕ) → i < length l → i < length m → take i l ≡ take i m → take (i + 1) (set l i (getD m i 0)) ≡ take (i + 1) m
-copied l m i h k e = stored l i (i + 1) (getD m i 0) refl h ∙ ap (λ (p : List ℕ). p ++ (getD m i 0 ∷ [])) e ∙ sym (rw (add-one, take-suc m i 0 k))
+copied l m i h k e = stored-behind l i (i + 1) (getD m i 0) refl h ∙ ap (λ (p : List ℕ). p ++ (getD m i 0 ∷ [])) e ∙ sym (rw (add-one, take-suc m i 0 k))
 
 -- the first four, one by one
 pub first-four : (s : List ℕ) → 4 ≤ length s → getD s 0 0 ∷ getD s 1 0 ∷ getD s 2 0 ∷ getD s 3 0 ∷ [] ≡ take 4 s

@@ -7,7 +7,7 @@ use native.Mathlib.Nat.{pow-zero, pow-suc, pow-le-pow-right}
 use native.Mathlib.Numerals.{add-one}
 use lib.ListN.{length, getD, take, set}
 use Rattle.record.specs.Bytes.{wordOf, bytesOf, part}
-use Rattle.record.proofs.Parts.{part-more, stored}
+use Rattle.record.proofs.Parts.{part-more, stored-behind}
 
 -- a byte in front of a word
 pub word-more : (s : List ℕ) (a a′ n n′ w b : ℕ) → a < length s → a′ ≡ a + 1 → n′ ≡ n + 1 → b ≡ getD s a 0 → w ≡ wordOf (part a′ n s) → w * 256 + b ≡ wordOf (part a n′ s)
@@ -21,11 +21,11 @@ word-grows n n′ w b e h k = rw (e, add-one, pow-suc) (omega arith)
 pub word-fits : (n w : ℕ) → n ≤ 8 → w < 256 ^ n → w < 18446744073709551616
 word-fits n w h k = let p : 256 ^ n ≤ 256 ^ 8 = pow-le-pow-right (omega arith) h in omega arith
 
--- a byte stored in front of the rest of its word
+-- a byte stored-behind in front of the rest of its word
 pub bytes-more : (out t : List ℕ) (j j′ k k′ rest : ℕ) → j < length out → j′ ≡ j + 1 → k ≡ k′ + 1 → take j out ++ bytesOf k rest ≡ t → take j′ (set out j (rest % 256)) ++ bytesOf k′ (rest / 256) ≡ t
 unfolding bytesOf
 bytes-more out t j j′ k k′ rest h e f q =
-    rw (stored out j j′ (rest % 256) e h, append-assoc) (ap (λ (n : ℕ). take j out ++ bytesOf n rest) (sym (add-one k′) ∙ sym f) ∙ q)
+    rw (stored-behind out j j′ (rest % 256) e h, append-assoc) (ap (λ (n : ℕ). take j out ++ bytesOf n rest) (sym (add-one k′) ∙ sym f) ∙ q)
 
 -- ---- back and forth
 

@@ -1,24 +1,41 @@
--- The test for zero bytes, from a place on. Assumes nothing.
-use mathlib.Core.Path.{_≡_}
-use mathlib.Core.Bool.{true, false}
+-- The zero test of bytes, from a place on, and bytes taken together bit by bit: none has a bit exactly where all are zero. Assumes nothing.
+use mathlib.Core.Path.{_≡_, refl, sym, ap, _∙_}
+use mathlib.Core.Bool.{Bool, true, false, _&&_, and-assoc}
 use mathlib.Core.List.{List}
 use Prim.Native.Nat.{ℕ, _+_, _-_, _≤_, _<_}
 use native.Mathlib.Omega.{arith}
-use borrow.Author.Tests.{eq-eqb, ne-eqb}
+use borrow.Author.Tests.{eq-eqb, ne-eqb, eqb-true, eqb-false}
+use lib.Bits.{bitOr, bitAnd, or-add-and, and-le-l, and-le-r, or-zero-l}
+use lib.Dec.{eqb}
 use lib.ListN.{length, getD}
 use Rattle.record.specs.Bytes.{allZero, zeroFrom}
 use Rattle.record.proofs.Parts.{part-more}
 
-pub zero-passes : (s : List ℕ) (i e : ℕ) → i < e → e ≤ length s → getD s i 0 ≡ 0 → zeroFrom i e s ≡ zeroFrom (i + 1) e s
-unfolding allZero
-zero-passes s i e h k z =
-    rw (part-more i (e - i) (e - (i + 1)) s (omega arith) (omega arith), eq-eqb _ 0 z)
+-- ---- one byte, and none
 
-pub other-fails : (s : List ℕ) (i e : ℕ) → i < e → e ≤ length s → (getD s i 0 ≡ 0 → ⊥) → zeroFrom i e s ≡ false
+pub zero-more : (s : List ℕ) (i e : ℕ) → i < e → e ≤ length s → zeroFrom i e s ≡ eqb (getD s i 0) 0 && zeroFrom (i + 1) e s
 unfolding allZero
-other-fails s i e h k z =
-    rw (part-more i (e - i) (e - (i + 1)) s (omega arith) (omega arith), ne-eqb _ 0 z)
+zero-more s i e h k = rw (part-more i (e - i) (e - (i + 1)) s (omega arith) (omega arith))
 
 pub none-left : (s : List ℕ) (e : ℕ) → zeroFrom e e s ≡ true
 unfolding allZero
 none-left s e = let z : e - e ≡ 0 = omega arith in rw z
+
+-- ---- bit by bit
+
+no-bits : (a b : ℕ) → bitOr a b ≡ 0 → (a ≡ 0) × (b ≡ 0)
+no-bits a b e = let s = or-add-and a b in let l = and-le-l a b in let r = and-le-r a b in (omega arith, omega arith)
+
+pub or-zero : (a b : ℕ) → eqb (bitOr a b) 0 ≡ eqb a 0 && eqb b 0
+or-zero a b = by (eqb a 0) refl (eqb b 0) refl
+  where
+    by : (t : Bool) → eqb a 0 ≡ t → (u : Bool) → eqb b 0 ≡ u → eqb (bitOr a b) 0 ≡ t && u
+    by true h true k = eq-eqb (bitOr a b) 0 (ap (λ (x : ℕ). bitOr x b) (eqb-true a 0 h) ∙ or-zero-l b ∙ eqb-true b 0 k)
+    by true h false k = ne-eqb (bitOr a b) 0 (λ e. eqb-false b 0 k (no-bits a b e .1))
+    by false h u k = ne-eqb (bitOr a b) 0 (λ e. eqb-false a 0 h (no-bits a b e .0))
+
+-- a byte taken in
+pub taken-in : (s : List ℕ) (i e any : ℕ) → i < e → e ≤ length s → eqb any 0 && zeroFrom i e s ≡ eqb (bitOr any (getD s i 0)) 0 && zeroFrom (i + 1) e s
+taken-in s i e any h k =
+    ap (λ (t : Bool). eqb any 0 && t) (zero-more s i e h k) ∙ sym (and-assoc (eqb any 0) (eqb (getD s i 0) 0) (zeroFrom (i + 1) e s))
+    ∙ ap (λ (t : Bool). t && zeroFrom (i + 1) e s) (sym (or-zero any (getD s i 0)))

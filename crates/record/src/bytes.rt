@@ -69,12 +69,12 @@ pub(crate) fn zeros_in(s: &[u8], a: usize, e: usize) -> bool
     requires { ⌜ (a ≤ e) × (e ≤ length (now s)) ⌝ }
     ensures { λ r. ⌜ r ≡ zeroFrom a e (now (s .entry)) ⌝ }
 {
+    // it takes every byte in and never stops early, so that the compiler can take many at a time
+    let mut any = 0u8;
     let mut i = a;
     while i < e {
-        if s[i] != 0u8 {
-            return false;
-        }
+        any = any | s[i];
         i += 1usize;
     }
-    true
+    any == 0u8
 }

@@ -12,7 +12,8 @@ use borrow.Author.Tests.{ltb-true, ltb-false}
 use lib.Dec.{ltb}
 use lib.Ieee.{Float, lt}
 use Rattle.float.specs.Choice.{pick}
-use Rattle.float.specs.Sign.{finite, allFinite}
+use Rattle.float.specs.Sign.{allFinite}
+use Rattle.float.proofs.Finite.{all-finite-append}
 use Rattle.float.proofs.Negation.{Rel}
 use Rattle.float.proofs.Keys.{key, Within, lt-key, key-rel, within-rel, opposite, differ}
 use Rattle.eigen.specs.Order.{Ranked, ordered, rankOf}
@@ -86,16 +87,11 @@ ranked-axes i j k = rw (ordered-12 i j k, ordered-13 (lower i j) (upper i j) k, 
 
 -- ---- the sort moves columns and changes no number, so they are all finite after it exactly where they were before
 
-all-append : (xs ys : List Float) → allFinite (xs ++ ys) ≡ allFinite xs && allFinite ys
-unfolding allFinite
-all-append [] ys = refl
-all-append (x ∷ xs) ys = ap (λ (t : Bool). finite x && t) (all-append xs ys) ∙ sym (and-assoc (finite x) (allFinite xs) (allFinite ys))
-
 abbrev finiteAxis : Axis → Bool
 finiteAxis i = allFinite (column i)
 
 axes-finite : (i j k : Axis) → allFinite (axes i j k .columns) ≡ finiteAxis i && (finiteAxis j && finiteAxis k)
-axes-finite i j k = all-append (column i) (column j ++ column k) ∙ ap (λ (t : Bool). finiteAxis i && t) (all-append (column j) (column k))
+axes-finite i j k = all-finite-append (column i) (column j ++ column k) ∙ ap (λ (t : Bool). finiteAxis i && t) (all-finite-append (column j) (column k))
 
 pair-finite : (i j : Axis) → finiteAxis (lower i j) && finiteAxis (upper i j) ≡ finiteAxis i && finiteAxis j
 pair-finite i j = go (above i j)

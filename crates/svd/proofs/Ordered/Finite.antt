@@ -1,17 +1,14 @@
 -- What an answer with code 0 puts in order is finite: a matrix keeps its nine places, and a magnitude is finite where its number is. Assumes nothing.
-use mathlib.Core.Path.{_≡_, refl, subst⁻¹}
-use mathlib.Core.Bool.{Bool, true, false, _&&_, false≢true}
-use mathlib.Core.List.{List, [], _∷_}
-use Prim.Native.Nat.{ℕ, zero, suc, _<_}
-use native.Mathlib.Omega.{arith}
+use mathlib.Core.Path.{_≡_, refl}
+use mathlib.Core.Bool.{true, false}
+use mathlib.Core.List.{List}
+use Prim.Native.Nat.{ℕ}
 use lib.ListN.{length}
 use lib.Ieee.{Float, Format, nan, inf, fin}
-use Rattle.float.specs.Sign.{magnitudeOf, signBitOf, finite, allFinite}
-use Rattle.matrix.specs.Places.{at}
-use Rattle.eigen.specs.Run.{run, after}
+use Rattle.float.specs.Sign.{magnitudeOf, signBitOf, finite}
 use Rattle.eigen.specs.declared.pairs.Pair.{Pair}
 use Rattle.eigen.specs.declared.pairs.Pair.the-variants.{P12, P13, P23}
-use Rattle.eigen.proofs.Run.{ran}
+use Rattle.eigen.proofs.Run.{run-keeps}
 use Rattle.svd.specs.Polar.{Sides}
 use Rattle.svd.specs.Pairs.{appliedOf}
 use Rattle.svd.specs.Svd3x3.{State, settledOf, stepOf, workOf}
@@ -30,16 +27,7 @@ magnitude-unsigned nan = refl
 magnitude-unsigned (inf s) = refl
 magnitude-unsigned (fin s m e) = refl
 
--- ---- what each step keeps, the run keeps
-
-module _ {S : Type 0} (step : S → S) (done : S → Bool) (P : S → Type 0) (kept : (s : S) → P (step s)) where
-  after-keeps : (n : ℕ) (s : S) → P s → P (after step done n s)
-  unfolding after
-  after-keeps zero s p = p
-  after-keeps (suc n) s p = after-keeps n (step s) (kept s)
-
-  run-keeps : (k : ℕ) (s : S) → P s → P (run step done k s)
-  run-keeps k s p = let r = ran step done k s in subst⁻¹ P (r .1 .stands) (after-keeps (r .0) s p)
+-- ---- a matrix keeps its nine places
 
 applied-nine : (f : Format) (p : Pair) (r : Sides) (a : List Float) → length (appliedOf f p r a) ≡ 9
 unfolding appliedOf

@@ -1,8 +1,6 @@
 -- Only a whole factor is judged. Assumes nothing.
-use mathlib.Core.Path.{_≡_, refl}
 use borrow.Author.Needs.{needs}
 use borrow.Author.Tests.{eq-eqb, ne-eqb}
-use Rattle.float.proofs.Branches.{passes, fails}
 use Rattle.cholesky.proofs.cholesky3x3.judge_factor.Statement.{statement}
 use Rattle.cholesky.proofs.cholesky3x3.judge_factor.Tie as tie
 

@@ -1,5 +1,5 @@
 -- The form on patterns, between a writing and a reading of the bits; what it answers is the nearest value by `correct`. Assumes nothing.
-use mathlib.Core.Path.{_≡_, ap, _∙_}
+use mathlib.Core.Path.{ap, _∙_}
 use borrow.Author.Needs.{needs}
 use denote.Floats.{passes}
 use lib.Ieee.{binary64, ofBits}

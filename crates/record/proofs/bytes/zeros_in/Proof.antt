@@ -1,30 +1,26 @@
--- The invariant: the test from i on is the test of the whole. Assumes nothing.
+-- The invariant: all bytes are zero exactly where those taken in have no bit and those from i on are zero. Assumes nothing.
 use borrow.Author.Needs.{needs}
 use mathlib.Core.Path.{_≡_, refl, sym, ap, _∙_}
+use mathlib.Core.Bool.{Bool, _&&_, and-true}
 use Prim.Native.Nat.{ℕ, _-_, _≤_}
 use native.Mathlib.Omega.{arith}
+use lib.Dec.{eqb}
 use Rattle.record.specs.Bytes.{zeroFrom}
-use Rattle.record.proofs.Zeros.{zero-passes, other-fails, none-left}
+use Rattle.record.proofs.Zeros.{taken-in, none-left}
 use Rattle.record.proofs.bytes.zeros_in.Statement.{statement}
 use Rattle.record.proofs.bytes.zeros_in.Tie as tie
 
 abbrev Inv-loop : tie.InvT-loop
-Inv-loop s a e i₀ i = (i ≤ e) × (zeroFrom a e s ≡ zeroFrom i e s)
+Inv-loop s a e any₀ i₀ any i = (i ≤ e) × (zeroFrom a e s ≡ eqb any 0 && zeroFrom i e s)
 
 abbrev μ-loop : tie.MeasureT-loop
-μ-loop s a e i₀ i = e - i
+μ-loop s a e any₀ i₀ any i = e - i
 
 loop-holds : tie.Need-loop-holds Inv-loop μ-loop
 loop-holds c = (omega arith, refl)
 
-shared-slice-read-if1 : tie.Need-shared-slice-read-if1 Inv-loop μ-loop
-shared-slice-read-if1 c = search needs
-
-returns : tie.Need-returns Inv-loop μ-loop
-returns c =
-    let l = c .before .before .before .loop in
-    let a = c .before .before .before .before .args in
-    sym (l .inv .1 ∙ other-fails (a .s .now) (l .i) (a .e) (omega arith) (omega arith) (c .if1 .taken))
+shared-slice-read-any : tie.Need-shared-slice-read-any Inv-loop μ-loop
+shared-slice-read-any c = search needs
 
 add-i : tie.Need-add-i Inv-loop μ-loop
 add-i c = search needs
@@ -34,27 +30,16 @@ loop-less c = search needs
 
 loop-again : tie.Need-loop-again Inv-loop μ-loop
 loop-again c =
-    let l = c .before .before .before .loop in
-    let a = c .before .before .before .before .args in
-    (omega arith, l .inv .1 ∙ zero-passes (a .s .now) (l .i) (a .e) (omega arith) (omega arith) (c .if1 .left))
+    let l = c .before .before .loop in
+    let a = c .before .before .before .args in
+    (omega arith, l .inv .1 ∙ taken-in (a .s .now) (l .i) (a .e) (l .any) (omega arith) (omega arith))
 
-returns-2 : tie.Need-returns-2 Inv-loop μ-loop
-returns-2 c =
+returns : tie.Need-returns Inv-loop μ-loop
+returns c =
     let l = c .before .loop in
     let a = c .before .before .args in
     let e : l .i ≡ a .e = omega arith in
-    sym (l .inv .1 ∙ ap (λ (k : ℕ). zeroFrom k (a .e) (a .s .now)) e ∙ none-left (a .s .now) (a .e))
+    sym (l .inv .1 ∙ ap (λ (k : ℕ). eqb (l .any) 0 && zeroFrom k (a .e) (a .s .now)) e ∙ ap (λ (t : Bool). eqb (l .any) 0 && t) (none-left (a .s .now) (a .e)) ∙ and-true (eqb (l .any) 0))
 
 pub zeros-in-spec : {M : Type 1} → statement M
-zeros-in-spec =
-    tie.close
-    (tie.spec
-    Inv-loop
-    μ-loop
-    loop-holds
-    shared-slice-read-if1
-    returns
-    add-i
-    loop-less
-    loop-again
-    returns-2)
+zeros-in-spec = tie.close (tie.spec Inv-loop μ-loop loop-holds shared-slice-read-any add-i loop-less loop-again returns)

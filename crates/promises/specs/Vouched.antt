@@ -1,0 +1,8 @@
+-- An answer whose numbers are all finite. Definitions only.
+use mathlib.Core.Path.{_≡_}
+use mathlib.Core.Bool.{true}
+use Rattle.float.specs.Sign.{allFinite}
+use Rattle.kinds.specs.Work.{KindAnswer}
+
+abbrev pub Vouched : KindAnswer → Type 0
+Vouched w = (allFinite (w .values) ≡ true) × (allFinite (w .left) ≡ true) × (allFinite (w .right) ≡ true)
