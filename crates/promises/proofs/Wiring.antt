@@ -1,0 +1,265 @@
+-- Reversed wiring at the record: the turned request says the same of its form, its six numbers are the negated ones, and of the kernel's answers the theorem `reversed` tells. Assumes nothing.
+use mathlib.Core.Path.{_≡_, refl, sym, ap, _∙_, subst, subst₂}
+use mathlib.Core.Bool.{Bool, true, false, _&&_}
+use mathlib.Core.List.{List, [], _∷_, _++_}
+use Prim.Native.Nat.{ℕ, zero, suc, _+_, _-_, _*_, _≤_, _<_}
+use native.Mathlib.Nat.{mul-zero, mul-suc}
+use native.Mathlib.Omega.{arith}
+use borrow.Author.Tests.{eqb-false}
+use contract.Lifetimes.{Lfts}
+use lib.Dec.{eqb}
+use lib.ListN.{length, getD, take, drop, length-append, length-take, length-drop}
+use lib.Seq.{take-all, take-suc, take-append-seam, drop-append-add, drop-drop, length-take-le}
+use lib.Ieee.{Float, nan, inf, fin, Format, binary32, binary64, neg, ofBits}
+use Rattle.float.specs.Choice.{pick}
+use Rattle.float.specs.Sign.{finite, allFinite}
+use Rattle.float.proofs.Choice.{by-eqb}
+use Rattle.matrix.specs.Places.{at, tabulate}
+use Rattle.matrix.proofs.Tables.{at-tabulate, tabulate-same, first-tabulate}
+use Rattle.eigen.specs.Eigen3x3.{EigenAnswer, eigenOf}
+use Rattle.eigen.specs.Reversed.{negated, AllDiffer, ValuesExchanged, ColumnsExchanged, Reversed}
+use Rattle.eigen.proofs.Reversed.{reversed}
+use Rattle.kinds.specs.Work.{KindAnswer, firstOf, markOf, fromEigen3, refusedKind, workOf}
+use Rattle.record.specs.Layout.{numberBytes, nineAt, threeAt, placeOf, requestSize}
+use Rattle.record.specs.Bytes.{wordOf, part, numberAt, numbersFrom, allZero, zeroFrom}
+use Rattle.record.specs.Request.{kindOf, reservedZero, unusedZero, formOf, usedFinite, judgedOf}
+use Rattle.record.specs.Answer.{recordOf, answeredOf}
+use Rattle.record.proofs.Words.{word-below}
+use Rattle.record.proofs.Answers.{code-in-place}
+use Rattle.record.proofs.Streams.{stepped}
+use Rattle.record.proofs.answer.zanikory_answer_record.Reads as answer-record
+use Rattle.promises.specs.Wiring.{turnedByte, turnedNumber, turnedNumbers, turned, Bytes, ReversedRecords}
+use Rattle.promises.proofs.Signs.{number-turned}
+
+-- ---- one number
+
+bytes-take : (n : ℕ) (x : List ℕ) → Bytes x → Bytes (take n x)
+bytes-take zero x h i = omega arith
+bytes-take (suc n) [] h i = h i
+bytes-take (suc n) (b ∷ x) h zero = h 0
+bytes-take (suc n) (b ∷ x) h (suc i) = bytes-take n x (λ (j : ℕ). h (suc j)) i
+
+bytes-drop : (n : ℕ) (x : List ℕ) → Bytes x → Bytes (drop n x)
+bytes-drop zero x h i = h i
+bytes-drop (suc n) [] h i = h i
+bytes-drop (suc n) (b ∷ x) h i = bytes-drop n x (λ (j : ℕ). h (suc j)) i
+
+module _ (f : Format) where
+  abbrev width : ℕ
+  width = numberBytes f
+
+  width-more : suc (width - 1) ≡ width
+  width-more = by f
+    where
+      by : (f : Format) → suc (numberBytes f - 1) ≡ numberBytes f
+      by binary32 = refl
+      by binary64 = refl
+
+  turned-length : (x : List ℕ) → length x ≡ width → length (turnedNumber f x) ≡ width
+  turned-length x e = let m = width-more in simp (length-append, length-take) (omega arith)
+
+  one-turned : (x : List ℕ) → length x ≡ width → Bytes x → ofBits f (wordOf (turnedNumber f x)) ≡ neg (ofBits f (wordOf x))
+  one-turned x e h =
+      let m = width-more in
+      let l = take (width - 1) x in
+      let k : length l ≡ width - 1 = length-take-le (width - 1) x (omega arith) in
+      let whole : l ++ (getD x (width - 1) 0 ∷ []) ≡ x = sym (take-suc x (width - 1) 0 (omega arith)) ∙ take-all (suc (width - 1)) x (omega arith) in
+      number-turned f l (getD x (width - 1) 0) (omega arith) (word-below l (bytes-take (width - 1) x h)) (h (width - 1)) ∙ ap (λ (y : List ℕ). neg (ofBits f (wordOf y))) whole
+
+  -- ---- n numbers
+
+  first-length : (n : ℕ) (s : List ℕ) → width * suc n ≤ length s → length (take width s) ≡ width
+  first-length n s h = let e = mul-suc width n in length-take-le width s (omega arith)
+
+  rest-length : (n : ℕ) (s : List ℕ) → width * suc n ≤ length s → width * n ≤ length (drop width s)
+  rest-length n s h = let e = mul-suc width n in simp length-drop (omega arith)
+
+  -- behind the first number
+  behind-first : (n : ℕ) (s r : List ℕ) → width * suc n ≤ length s → (m : ℕ) → drop (width * suc m) (turnedNumber f (take width s) ++ r) ≡ drop (width * m) r
+  behind-first n s r h m =
+      let e = mul-suc width m in
+      let x = turnedNumber f (take width s) in
+      let l = turned-length (take width s) (first-length n s h) in
+      let q : width * suc m ≡ length x + width * m = omega arith in
+      ap (λ (k : ℕ). drop k (x ++ r)) q ∙ drop-append-add x r (width * m)
+
+  behind-number : (s : List ℕ) (m : ℕ) → drop (width * suc m) s ≡ drop (width * m) (drop width s)
+  behind-number s m =
+      let e = mul-suc width m in
+      let q : width * suc m ≡ width + width * m = omega arith in
+      ap (λ (k : ℕ). drop k s) q ∙ sym (drop-drop (width * m) width s)
+
+  numbers-turned : (n : ℕ) (s : List ℕ) → width * n ≤ length s → Bytes s → (i : ℕ) → i < n
+      → ofBits f (wordOf (part (width * i) width (turnedNumbers f n s))) ≡ neg (ofBits f (wordOf (part (width * i) width s)))
+  unfolding turnedNumbers
+  numbers-turned zero s h b i l = absurd (omega arith)
+  numbers-turned (suc n) s h b zero l =
+      let x = take width s in
+      let e = first-length n s h in
+      let seam : take width (turnedNumber f x ++ turnedNumbers f n (drop width s)) ≡ turnedNumber f x =
+      ap (λ (k : ℕ). take k (turnedNumber f x ++ turnedNumbers f n (drop width s))) (sym (turned-length x e)) ∙ take-append-seam (turnedNumber f x) (turnedNumbers f n (drop width s)) in
+      rw (mul-zero width) (ap (λ (y : List ℕ). ofBits f (wordOf y)) seam ∙ one-turned x e (bytes-take width s b))
+  numbers-turned (suc n) s h b (suc i) l =
+      ap (λ (y : List ℕ). ofBits f (wordOf (take width y))) (behind-first n s (turnedNumbers f n (drop width s)) h i)
+      ∙ numbers-turned n (drop width s) (rest-length n s h) (bytes-drop width s b) i (omega arith)
+      ∙ ap (λ (y : List ℕ). neg (ofBits f (wordOf (take width y)))) (sym (behind-number s i))
+
+  rest-same : (n : ℕ) (s : List ℕ) → width * n ≤ length s → drop (width * n) (turnedNumbers f n s) ≡ drop (width * n) s
+  unfolding turnedNumbers
+  rest-same zero s h = refl
+  rest-same (suc n) s h = behind-first n s (turnedNumbers f n (drop width s)) h n ∙ rest-same n (drop width s) (rest-length n s h) ∙ sym (behind-number s n)
+
+  same-length : (n : ℕ) (s : List ℕ) → width * n ≤ length s → length (turnedNumbers f n s) ≡ length s
+  unfolding turnedNumbers
+  same-length zero s h = refl
+  same-length (suc n) s h =
+      let e = mul-suc width n in
+      let rest = same-length n (drop width s) (rest-length n s h) in
+      let whole = length-drop width s in
+      rw (length-append, turned-length (take width s) (first-length n s h)) (omega arith)
+
+-- ---- the answers of the kernel
+
+-- what `ReversedRecords` asks, before the answers are bytes
+record Alike (x y : KindAnswer) : Type 0 where
+  pub codes : x .code ≡ y .code
+  pub counts : x .count ≡ y .count
+  pub marks : x .settled ≡ y .settled
+  pub values : x .code ≡ 0 → ValuesExchanged (x .values) (y .values)
+  pub columns : x .code ≡ 0 → AllDiffer (x .values) → ColumnsExchanged (x .left) (y .left)
+
+refused-alike : (f : Format) (k : ℕ) → (k ≡ 0 → ⊥) → Alike (refusedKind f k 0) (refusedKind f k 0)
+refused-alike f k n = record { codes = refl; counts = refl; marks = refl; values = (λ e. absurd (n e)); columns = (λ e _. absurd (n e)) }
+
+eigen-alike : (f : Format) (r q : EigenAnswer) → Reversed r q → Alike (fromEigen3 f r) (fromEigen3 f q)
+eigen-alike f r q h = record { codes = h .codes; counts = h .counts; marks = ap markOf (h .marks); values = h .values; columns = h .columns }
+
+finite-neg : (x : Float) → finite (neg x) ≡ finite x
+unfolding finite neg
+finite-neg nan = refl
+finite-neg (inf s) = refl
+finite-neg (fin s m e) = refl
+
+all-finite-neg : (n : ℕ) (g : ℕ → Float) → allFinite (tabulate n (λ (i : ℕ). neg (g i))) ≡ allFinite (tabulate n g)
+unfolding allFinite
+all-finite-neg zero g = refl
+all-finite-neg (suc n) g = rw (finite-neg (g 0), all-finite-neg n (λ (i : ℕ). g (suc i)))
+
+-- ---- a request whose first eight bytes are written out
+
+module _ (f : Format) (a0 a1 a2 a3 a5 a6 a7 : ℕ) (body : List ℕ) (size : length body ≡ width f * 12) (bytes : Bytes body) where
+  abbrev request : List ℕ → List ℕ
+  request b = a0 ∷ a1 ∷ a2 ∷ a3 ∷ 2 ∷ a5 ∷ a6 ∷ a7 ∷ b
+
+  abbrev other : List ℕ
+  other = turnedNumbers f 6 body
+
+  in-body : (b : List ℕ) (m : ℕ) → drop (8 + m) (request b) ≡ drop m b
+  in-body b m = sym (drop-drop m 8 (request b))
+
+  same-behind : (m : ℕ) → width f * 6 ≤ m → drop (8 + m) (request other) ≡ drop (8 + m) (request body)
+  same-behind m h =
+      let q : m ≡ width f * 6 + (m - width f * 6) = omega arith in
+      let behind : (b : List ℕ) → drop (8 + m) (request b) ≡ drop (m - width f * 6) (drop (width f * 6) b) =
+      λ (b : List ℕ). in-body b m ∙ ap (λ (k : ℕ). drop k b) q ∙ sym (drop-drop (m - width f * 6) (width f * 6) b) in
+      behind other ∙ ap (drop (m - width f * 6)) (rest-same f 6 body (omega arith)) ∙ sym (behind body)
+
+  abbrev numberIn : List ℕ → ℕ → Float
+  numberIn b i = numberAt f (placeOf f nineAt i) (request b)
+
+  number-negated : (i : ℕ) → i < 6 → numberIn other i ≡ neg (numberIn body i)
+  number-negated i l =
+      ap (λ (y : List ℕ). ofBits f (wordOf (take (width f) y))) (in-body other (width f * i))
+      ∙ numbers-turned f 6 body (omega arith) bytes i l
+      ∙ ap (λ (y : List ℕ). neg (ofBits f (wordOf (take (width f) y)))) (sym (in-body body (width f * i)))
+
+  six-negated : tabulate 6 (numberIn other) ≡ negated (tabulate 6 (numberIn body))
+  six-negated = tabulate-same 6 (numberIn other) (λ (i : ℕ). neg (at (tabulate 6 (numberIn body)) i)) (λ i l. number-negated i l ∙ ap neg (sym (at-tabulate 6 (numberIn body) i l)))
+
+  same-form : formOf f (request other) ≡ formOf f (request body)
+  unfolding formOf
+  same-form =
+      ap (λ (t : Bool). pick (reservedZero 2 (request body) && t) 0 4)
+      (ap (λ (y : List ℕ). allZero (take (threeAt f - placeOf f nineAt 6) y) && zeroFrom (placeOf f (threeAt f) 0) (requestSize f) (request other)) (same-behind (width f * 6) (omega arith))
+      ∙ ap (λ (y : List ℕ). zeroFrom (placeOf f nineAt 6) (threeAt f) (request body) && allZero (take (requestSize f - placeOf f (threeAt f) 0) y)) three-same)
+    where
+      three-same : drop (placeOf f (threeAt f) 0) (request other) ≡ drop (placeOf f (threeAt f) 0) (request body)
+      three-same =
+          let q : placeOf f (threeAt f) 0 ≡ 8 + (width f * 9 + width f * 0) = omega arith in
+          ap (λ (k : ℕ). drop k (request other)) q ∙ same-behind (width f * 9 + width f * 0) (omega arith) ∙ ap (λ (k : ℕ). drop k (request body)) (sym q)
+
+  same-used : usedFinite f 2 (request other) ≡ usedFinite f 2 (request body)
+  unfolding allFinite
+  same-used =
+      ap (λ (t : Bool). t && true)
+      (ap allFinite six-negated ∙ all-finite-neg 6 (at (tabulate 6 (numberIn body))) ∙ ap allFinite (first-tabulate 6 6 (numberIn body) (omega arith)))
+
+  abbrev workIn : List ℕ → KindAnswer
+  workIn b = workOf f 2 (numbersFrom f 9 nineAt (request b)) (numbersFrom f 3 (threeAt f) (request b))
+
+  work-alike : Alike (workIn body) (workIn other)
+  unfolding workOf
+  work-alike =
+      let a = tabulate 6 (numberIn body) in
+      let firsts : firstOf 6 (tabulate 9 (numberIn other)) ≡ negated (firstOf 6 (tabulate 9 (numberIn body))) =
+      first-tabulate 6 9 (numberIn other) (omega arith) ∙ six-negated ∙ ap negated (sym (first-tabulate 6 9 (numberIn body) (omega arith))) in
+      eigen-alike f (eigenOf f (firstOf 6 (tabulate 9 (numberIn body)))) (eigenOf f (firstOf 6 (tabulate 9 (numberIn other))))
+      (subst (λ (y : List Float). Reversed (eigenOf f (firstOf 6 (tabulate 9 (numberIn body)))) (eigenOf f y)) (sym firsts) (reversed f (firstOf 6 (tabulate 9 (numberIn body))) refl))
+
+  -- the same tests on both sides, so the same side of each choice is taken
+  both-chosen : (t : Bool) (x y z : KindAnswer) → Alike x y → (t ≡ false → Alike z z) → Alike (pick t x z) (pick t y z)
+  both-chosen true x y z h k = h
+  both-chosen false x y z h k = k refl
+
+  judged-alike : Alike (judgedOf f (request body)) (judgedOf f (request other))
+  unfolding judgedOf
+  judged-alike =
+      let k = formOf f (request body) in
+      rw (same-form, same-used)
+      (both-chosen (eqb k 0) _ _ _
+      (both-chosen (usedFinite f 2 (request body)) _ _ _ work-alike (λ _. refused-alike f 5 (λ e. absurd (omega arith))))
+      (λ e. refused-alike f k (eqb-false k 0 e)))
+
+  reversed-request : ReversedRecords f (request body) (turned f (request body))
+  unfolding recordOf
+  reversed-request =
+      let h = judged-alike in
+      record { codes = h .codes; counts = h .counts; marks = h .marks; values = h .values; columns = h .columns }
+
+-- ---- any request of kind 2
+
+pub reversed-records : (f : Format) (s : List ℕ) → length s ≡ requestSize f → kindOf s ≡ 2 → Bytes s → ReversedRecords f s (turned f s)
+reversed-records f [] h k b = absurd (omega arith)
+reversed-records f (a0 ∷ []) h k b = absurd (omega arith)
+reversed-records f (a0 ∷ a1 ∷ []) h k b = absurd (omega arith)
+reversed-records f (a0 ∷ a1 ∷ a2 ∷ []) h k b = absurd (omega arith)
+reversed-records f (a0 ∷ a1 ∷ a2 ∷ a3 ∷ []) h k b = absurd (omega arith)
+reversed-records f (a0 ∷ a1 ∷ a2 ∷ a3 ∷ a4 ∷ []) h k b = absurd (omega arith)
+reversed-records f (a0 ∷ a1 ∷ a2 ∷ a3 ∷ a4 ∷ a5 ∷ []) h k b = absurd (omega arith)
+reversed-records f (a0 ∷ a1 ∷ a2 ∷ a3 ∷ a4 ∷ a5 ∷ a6 ∷ []) h k b = absurd (omega arith)
+reversed-records f (a0 ∷ a1 ∷ a2 ∷ a3 ∷ a4 ∷ a5 ∷ a6 ∷ a7 ∷ body) h k b =
+    subst (λ (kind : ℕ). ReversedRecords f (a0 ∷ a1 ∷ a2 ∷ a3 ∷ kind ∷ a5 ∷ a6 ∷ a7 ∷ body) (turned f (a0 ∷ a1 ∷ a2 ∷ a3 ∷ kind ∷ a5 ∷ a6 ∷ a7 ∷ body))) (sym k)
+    (reversed-request f a0 a1 a2 a3 a5 a6 a7 body (omega arith) (bytes-drop 8 (a0 ∷ a1 ∷ a2 ∷ a3 ∷ a4 ∷ a5 ∷ a6 ∷ a7 ∷ body) b))
+
+-- ---- any two answers within the promise of the record step, of which the second is to the turned request
+
+turned-size : (f : Format) (s : List ℕ) → length s ≡ requestSize f → length (turned f s) ≡ requestSize f
+turned-size f s h =
+    let first = length-take-le 8 s (omega arith) in
+    let rest = length-drop 8 s in
+    let same = same-length f 6 (drop 8 s) (omega arith) in
+    rw length-append (omega arith)
+
+pub reversed-calls : (κs : Lfts 2) (a b : _) (r q : ℕ) (x y : _) → answer-record.Post κs a r x → answer-record.Post κs b q y
+    → length (a .1 .0 .now) ≡ 176 → length (b .1 .0 .now) ≡ 176
+    → length (a .0 .now) ≡ 104 → kindOf (a .0 .now) ≡ 2 → Bytes (a .0 .now) → b .0 .now ≡ turned binary64 (a .0 .now)
+    → (r ≡ q) × (x .1 .0 .now ≡ answeredOf binary64 (a .0 .now)) × (y .1 .0 .now ≡ answeredOf binary64 (b .0 .now)) × ReversedRecords binary64 (a .0 .now) (b .0 .now)
+reversed-calls κs a b r q x y p w u v n k c e =
+    let s = a .0 .now in
+    let t = b .0 .now in
+    let m : length t ≡ 104 = ap length e ∙ turned-size binary64 s n in
+    let h : ReversedRecords binary64 s t = subst (ReversedRecords binary64 s) (sym e) (reversed-records binary64 s n k c) in
+    let l = stepped s (a .1 .0 .now) n u in
+    let o = stepped t (b .1 .0 .now) m v in
+    let code : List ℕ → ℕ = λ (z : List ℕ). getD z 5 0 in
+    (p .0 ∙ sym (code-in-place binary64 s (a .1 .0 .now) u) ∙ ap code l ∙ h .codes ∙ sym (ap code o) ∙ code-in-place binary64 t (b .1 .0 .now) v ∙ sym (w .0), p .1 ∙ l, w .1 ∙ o, h)

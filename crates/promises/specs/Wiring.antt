@@ -1,0 +1,47 @@
+-- Reversed wiring at the record: a request, the one with the signs of its six numbers turned, and what their answers have to do with each other. Definitions only.
+use mathlib.Core.Path.{_≡_}
+use mathlib.Core.List.{List, [], _∷_, _++_}
+use Prim.Native.Nat.{ℕ, zero, suc, _+_, _-_, _%_, _<_}
+use lib.ListN.{getD, take, drop}
+use lib.Ieee.{Format}
+use Rattle.eigen.specs.Reversed.{AllDiffer, ValuesExchanged, ColumnsExchanged}
+use Rattle.record.specs.Layout.{numberBytes, nineAt, codeAt}
+use Rattle.record.specs.Request.{judgedOf}
+use Rattle.record.specs.Answer.{answeredOf}
+
+-- ---- signs turned
+
+-- the highest bit of a byte turned
+abbrev pub turnedByte : ℕ → ℕ
+turnedByte b = (b + 128) % 256
+
+-- the sign of a number is the highest bit of its last byte
+abbrev pub turnedNumber : Format → List ℕ → List ℕ
+turnedNumber f x = take (numberBytes f - 1) x ++ (turnedByte (getD x (numberBytes f - 1) 0) ∷ [])
+
+-- the first n numbers turned
+unfoldable pub turnedNumbers : Format → ℕ → List ℕ → List ℕ
+turnedNumbers f zero s = s
+turnedNumbers f (suc n) s = turnedNumber f (take (numberBytes f) s) ++ turnedNumbers f n (drop (numberBytes f) s)
+
+-- a request with the first six of its numbers turned
+abbrev pub turned : Format → List ℕ → List ℕ
+turned f s = take nineAt s ++ turnedNumbers f 6 (drop nineAt s)
+
+-- what lies in a slice of bytes
+abbrev pub Bytes : List ℕ → Type 0
+Bytes s = (i : ℕ) → getD s i 0 < 256
+
+-- ---- the answers to two requests
+
+-- byte k of both is the same
+abbrev pub SameByte : Format → ℕ → List ℕ → List ℕ → Type 0
+SameByte f k s t = getD (answeredOf f s) k 0 ≡ getD (answeredOf f t) k 0
+
+-- Code, count and mark are the same. With code 0 the values are exchanged and negated; and if no two of them are equal, the columns are exchanged, bit for bit.
+pub record ReversedRecords (f : Format) (s t : List ℕ) : Type 0 where
+  pub codes : SameByte f 5 s t
+  pub counts : SameByte f 6 s t
+  pub marks : SameByte f 7 s t
+  pub values : judgedOf f s .code ≡ 0 → ValuesExchanged (judgedOf f s .values) (judgedOf f t .values)
+  pub columns : judgedOf f s .code ≡ 0 → AllDiffer (judgedOf f s .values) → ColumnsExchanged (judgedOf f s .left) (judgedOf f t .left)
