@@ -56,14 +56,21 @@ build() { # SOURCE LEVEL PROGRAM OBJECT..
     fi
 }
 
-# host_program NAME CRATE..: builds host/NAME.c with the crates' libraries, and sets `program` to its path.
-host_program() {
-    program=$room/$1 source_of=host/$1.c
+# program_of SOURCE.c CRATE..: builds it with the crates' libraries, and sets `program` to its path.
+program_of() {
+    source_of=$1 program=$room/$(basename "$1" .c)
     shift
     make_libraries "$@"
     choose_compiler
     mkdir -p "$room"
     build "$source_of" 2 "$program"
+}
+
+# host_program NAME CRATE..: the same of host/NAME.c.
+host_program() {
+    host_name=$1
+    shift
+    program_of "host/$host_name.c" "$@"
 }
 
 # Runs what was built, on this machine.

@@ -1,6 +1,6 @@
 # shellcheck shell=sh
-# Sourced by tests. How a program for x86-64 is run, on such a machine and on any other that the kit
-# knows. Gives the variables kit and kit_own, the kit's folder and its part for this machine, and the
+# Sourced by tests and by ./run. How a program for x86-64 is run, on such a machine and on any other that the
+# kit knows. Gives the variables kit and kit_own, the kit's folder and its part for this machine, and the
 # functions exec_proved and run_proved.
 
 kit=$(dirname "$(dirname "$(rt doc)")")
