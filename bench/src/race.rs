@@ -4,18 +4,38 @@
 use std::fmt;
 use std::time::Instant;
 
-const ROUNDS: usize = 101;
+/// So many rounds where a turn is short.
+pub const ROUNDS: usize = 101;
 
 /// What was timed, beside what, and the nanoseconds of one call on each side, round by round.
 pub struct Race {
-    what: &'static str,
-    beside: &'static str,
+    pub what: &'static str,
+    pub beside: &'static str,
     rounds: Vec<(f64, f64)>,
 }
 
-/// Runs both sides in turn. A side makes `calls` calls and hands back a fold of all its answers' bits;
-/// it is an error if the two sides' folds differ, since they then did not do the same work.
+/// The least, the median and the most of some numbers.
+pub struct Spread {
+    pub least: f64,
+    pub median: f64,
+    pub most: f64,
+}
+
+/// Runs both sides in turn, `ROUNDS` times.
 pub fn race(
+    what: &'static str,
+    beside: &'static str,
+    calls: usize,
+    ours: impl Fn() -> u64,
+    theirs: impl Fn() -> u64,
+) -> Result<Race, String> {
+    race_of_rounds(ROUNDS, what, beside, calls, ours, theirs)
+}
+
+/// Runs both sides in turn. A side makes `calls` calls and hands back a fold of its answers' bits; it is
+/// an error if the two sides' folds differ, since they then did not do the same work.
+pub fn race_of_rounds(
+    count: usize,
     what: &'static str,
     beside: &'static str,
     calls: usize,
@@ -24,7 +44,7 @@ pub fn race(
 ) -> Result<Race, String> {
     let mut rounds = Vec::new();
     // the first round fills the caches and wakes the processor, and is not counted
-    for round in 0..=ROUNDS {
+    for round in 0..=count {
         let (our_time, our_fold) = turn(&ours, calls);
         let (their_time, their_fold) = turn(&theirs, calls);
         if our_fold != their_fold {
@@ -47,27 +67,55 @@ fn turn(side: &impl Fn() -> u64, calls: usize) -> (f64, u64) {
     (start.elapsed().as_nanos() as f64 / calls as f64, fold)
 }
 
-/// The least, the median and the most of what `part` takes from each round.
-fn spread(rounds: &[(f64, f64)], part: impl Fn(&(f64, f64)) -> f64) -> (f64, f64, f64) {
-    let mut parts: Vec<f64> = rounds.iter().map(part).collect();
-    parts.sort_by(f64::total_cmp);
-    (parts[0], parts[parts.len() / 2], parts[parts.len() - 1])
+impl Race {
+    /// Nanoseconds of one call of ours.
+    pub fn ours(&self) -> f64 {
+        self.spread(|round| round.0).median
+    }
+
+    /// Nanoseconds of one call of theirs.
+    pub fn theirs(&self) -> f64 {
+        self.spread(|round| round.1).median
+    }
+
+    /// How many times longer ours takes, in each round: a ratio is of two turns that stood next to each
+    /// other, and the median is taken of these.
+    pub fn ratio(&self) -> Spread {
+        self.spread(|round| round.0 / round.1)
+    }
+
+    fn spread(&self, part: impl Fn(&(f64, f64)) -> f64) -> Spread {
+        let mut parts: Vec<f64> = self.rounds.iter().map(part).collect();
+        parts.sort_by(f64::total_cmp);
+        Spread {
+            least: parts[0],
+            median: parts[parts.len() / 2],
+            most: parts[parts.len() - 1],
+        }
+    }
+}
+
+/// Nanoseconds, to a tenth where that says something.
+pub fn nanoseconds(x: f64) -> String {
+    if x < 100.0 {
+        format!("{x:.1}")
+    } else {
+        format!("{x:.0}")
+    }
 }
 
 impl fmt::Display for Race {
-    /// A ratio is of two turns that stood next to each other, and the median is taken of these.
     fn fmt(&self, f: &mut fmt::Formatter) -> fmt::Result {
-        let (_, ours, _) = spread(&self.rounds, |round| round.0);
-        let (_, theirs, _) = spread(&self.rounds, |round| round.1);
-        let (least, ratio, most) = spread(&self.rounds, |round| round.0 / round.1);
-        let (what, beside) = (self.what, self.beside);
+        let (ours, theirs) = (nanoseconds(self.ours()), nanoseconds(self.theirs()));
+        let ratio = self.ratio();
+        write!(f, "{}: {ours} ns, {} {theirs} ns, ", self.what, self.beside)?;
         write!(
             f,
-            "{what}: {ours:.1} ns, {beside} {theirs:.1} ns, ratio {ratio:.1} "
-        )?;
-        write!(
-            f,
-            "(median of {ROUNDS} interleaved rounds, {least:.1}..{most:.1})"
+            "ratio {:.2} (median of {} interleaved rounds, {:.2}..{:.2})",
+            ratio.median,
+            self.rounds.len(),
+            ratio.least,
+            ratio.most
         )
     }
 }
