@@ -13,8 +13,7 @@ const MATRICES: usize = 4096;
 type Spectrum = unsafe extern "C" fn(*const f64, usize, *mut f64, usize) -> u8;
 
 /// Takes an old factor and a matrix, and writes the factor.
-type Factor =
-    unsafe extern "C" fn(*const f64, usize, *const f64, usize, *mut f64, usize) -> u8;
+type Factor = unsafe extern "C" fn(*const f64, usize, *const f64, usize, *mut f64, usize) -> u8;
 
 /// Takes a factor, writes the solution, and takes the right side.
 type Solve = unsafe extern "C" fn(*const f64, usize, *mut f64, usize, *const f64, usize) -> u8;
@@ -132,7 +131,13 @@ unsafe extern "C" fn crate_solve_2x2(
     _: usize,
 ) -> u8 {
     // SAFETY: the caller lends arrays of 3, 2 and 2, and the one that is written overlaps no other.
-    let (l, x, b) = unsafe { (&*l.cast(), &mut *x.cast::<[f64; 2]>(), &*b.cast::<[f64; 2]>()) };
+    let (l, x, b) = unsafe {
+        (
+            &*l.cast(),
+            &mut *x.cast::<[f64; 2]>(),
+            &*b.cast::<[f64; 2]>(),
+        )
+    };
     DenseMatrixSym2 { data: *l }.cholesky_2x2_explicit_solve(x, b);
     0
 }
@@ -147,7 +152,13 @@ unsafe extern "C" fn crate_solve_3x3(
     _: usize,
 ) -> u8 {
     // SAFETY: the caller lends arrays of 6, 3 and 3, and the one that is written overlaps no other.
-    let (l, x, b) = unsafe { (&*l.cast(), &mut *x.cast::<[f64; 3]>(), &*b.cast::<[f64; 3]>()) };
+    let (l, x, b) = unsafe {
+        (
+            &*l.cast(),
+            &mut *x.cast::<[f64; 3]>(),
+            &*b.cast::<[f64; 3]>(),
+        )
+    };
     DenseMatrixSym3 { data: *l }.cholesky_3x3_explicit_solve(x, b);
     0
 }
@@ -202,52 +213,53 @@ fn answers<const N: usize, const M: usize>(
 }
 
 fn race_of_calls<const N: usize, const M: usize, C: Fn(&[f64; N], &mut [f64; M]) -> u8>(
-    what: &'static str,
+    what: &str,
     given: &[[f64; N]],
     ours: C,
     theirs: C,
 ) -> Result<Race, String> {
     let ours = || answers(&ours, given);
     let theirs = || answers(&theirs, given);
-    race(what, "Rust", given.len(), ours, theirs)
+    race(what, "crate", given.len(), ours, theirs)
 }
 
-pub fn eigen_3x3() -> Result<Race, String> {
-    let matrices = inputs::ordinary::<6>(MATRICES);
-    let [ours, theirs] = [zanikory_eigen_3x3, crate_eigen_3x3 as Spectrum].map(of_spectrum::<6, 18>);
-    race_of_calls("eigen 3x3", &matrices, ours, theirs)
-}
-
-pub fn svd_3x3() -> Result<Race, String> {
-    let matrices = inputs::ordinary::<9>(MATRICES);
-    let [ours, theirs] = [zanikory_svd_3x3, crate_svd_3x3 as Spectrum].map(of_spectrum::<9, 30>);
-    race_of_calls("svd 3x3", &matrices, ours, theirs)
-}
-
-pub fn factor_2x2() -> Result<Race, String> {
-    let matrices = inputs::with_diagonal::<3>(MATRICES, &[0, 2]);
+fn factors() -> Result<[Race; 2], String> {
     let sides: [Factor; 2] = [zanikory_cholesky_2x2_factor, crate_factor_2x2];
     let [ours, theirs] = sides.map(of_factor::<3>);
-    race_of_calls("factor 2x2", &matrices, ours, theirs)
-}
-
-pub fn factor_3x3() -> Result<Race, String> {
-    let matrices = inputs::with_diagonal::<6>(MATRICES, &[0, 2, 5]);
+    let matrices = inputs::with_diagonal(MATRICES, &[0, 2]);
+    let two = race_of_calls("Cholesky 2x2", &matrices, ours, theirs)?;
     let sides: [Factor; 2] = [zanikory_cholesky_3x3_factor, crate_factor_3x3];
     let [ours, theirs] = sides.map(of_factor::<6>);
-    race_of_calls("factor 3x3", &matrices, ours, theirs)
+    let matrices = inputs::with_diagonal(MATRICES, &[0, 2, 5]);
+    let three = race_of_calls("Cholesky 3x3", &matrices, ours, theirs)?;
+    Ok([two, three])
 }
 
-pub fn solve_2x2() -> Result<Race, String> {
-    let given = inputs::with_diagonal::<5>(MATRICES, &[0, 2]);
+fn solutions() -> Result<[Race; 2], String> {
     let sides: [Solve; 2] = [zanikory_cholesky_2x2_solve, crate_solve_2x2];
     let [ours, theirs] = sides.map(of_solve::<5, 2>);
-    race_of_calls("solve 2x2", &given, ours, theirs)
-}
-
-pub fn solve_3x3() -> Result<Race, String> {
-    let given = inputs::with_diagonal::<9>(MATRICES, &[0, 2, 5]);
+    let given = inputs::with_diagonal(MATRICES, &[0, 2]);
+    let two = race_of_calls("solve 2x2", &given, ours, theirs)?;
     let sides: [Solve; 2] = [zanikory_cholesky_3x3_solve, crate_solve_3x3];
     let [ours, theirs] = sides.map(of_solve::<9, 3>);
-    race_of_calls("solve 3x3", &given, ours, theirs)
+    let given = inputs::with_diagonal(MATRICES, &[0, 2, 5]);
+    let three = race_of_calls("solve 3x3", &given, ours, theirs)?;
+    Ok([two, three])
+}
+
+fn spectra() -> Result<[Race; 2], String> {
+    let sides: [Spectrum; 2] = [zanikory_eigen_3x3, crate_eigen_3x3];
+    let [ours, theirs] = sides.map(of_spectrum::<6, 18>);
+    let eigen = race_of_calls("eigen 3x3", &inputs::ordinary(MATRICES), ours, theirs)?;
+    let sides: [Spectrum; 2] = [zanikory_svd_3x3, crate_svd_3x3];
+    let [ours, theirs] = sides.map(of_spectrum::<9, 30>);
+    let svd = race_of_calls("SVD 3x3", &inputs::ordinary(MATRICES), ours, theirs)?;
+    Ok([eigen, svd])
+}
+
+pub fn all(tell: &mut dyn FnMut(Race)) -> Result<(), String> {
+    factors()?.into_iter().for_each(&mut *tell);
+    solutions()?.into_iter().for_each(&mut *tell);
+    spectra()?.into_iter().for_each(tell);
+    Ok(())
 }

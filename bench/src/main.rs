@@ -1,72 +1,69 @@
-//! Times the proved functions beside what does the same work in Rust or in hardware. One function makes
-//! each printed line, and `LINES` names them all.
+//! Times the proved functions beside what does the same work in Rust or in hardware, and prints a line for
+//! each. `bench [--write] PROGRAM..` from the repository's root, where PROGRAM are the words that start the
+//! program on this processor; with --write the table and the picture in docs/ are made anew.
 
+mod clock;
+#[cfg(clarabel)]
+mod document;
 mod inputs;
 #[cfg(clarabel)]
 mod kernels;
 mod machine;
+#[cfg(clarabel)]
+mod memory;
+#[cfg(clarabel)]
+mod picture;
+#[cfg(clarabel)]
+mod programs;
 mod race;
 #[cfg(clarabel)]
 mod records;
 mod roots;
+#[cfg(clarabel)]
+mod straight;
 
 use race::Race;
 use std::process::ExitCode;
 
-/// Those beside the crate's own kernels are there only where its source is.
-const LINES: &[fn() -> Result<Race, String>] = &[
-    roots::plain,
-    roots::with_subnormals,
-    #[cfg(clarabel)]
-    kernels::factor_2x2,
-    #[cfg(clarabel)]
-    kernels::factor_3x3,
-    #[cfg(clarabel)]
-    kernels::solve_2x2,
-    #[cfg(clarabel)]
-    kernels::solve_3x3,
-    #[cfg(clarabel)]
-    kernels::eigen_3x3,
-    #[cfg(clarabel)]
-    kernels::svd_3x3,
-    #[cfg(clarabel)]
-    records::unknown_kind,
-    #[cfg(clarabel)]
-    records::not_zero,
-    #[cfg(clarabel)]
-    records::not_finite,
-    #[cfg(clarabel)]
-    records::diagonal,
-    #[cfg(clarabel)]
-    records::eigen_2x2,
-    #[cfg(clarabel)]
-    records::eigen_3x3,
-    #[cfg(clarabel)]
-    records::svd_2x2,
-    #[cfg(clarabel)]
-    records::svd_3x3,
-    #[cfg(clarabel)]
-    records::cholesky_2x2,
-    #[cfg(clarabel)]
-    records::cholesky_3x3,
-    #[cfg(clarabel)]
-    records::solve_2x2,
-    #[cfg(clarabel)]
-    records::solve_3x3,
-    #[cfg(clarabel)]
-    records::of_any_kind,
-];
-
 fn main() -> ExitCode {
+    let words: Vec<String> = std::env::args().skip(1).collect();
+    let words: Vec<&str> = words.iter().map(String::as_str).collect();
     let machine = machine::kind();
-    for line in LINES {
-        match line() {
-            Ok(race) => println!("{race}, {machine}"),
-            Err(why) => {
-                eprintln!("bench: {why}");
-                return ExitCode::FAILURE;
-            }
+    match measured(&words, &machine) {
+        Ok(()) => ExitCode::SUCCESS,
+        Err(why) => {
+            eprintln!("bench: {why}");
+            ExitCode::FAILURE
         }
     }
-    ExitCode::SUCCESS
+}
+
+/// All that is measured, in the order of the lines.
+#[cfg(clarabel)]
+fn measured(words: &[&str], machine: &str) -> Result<(), String> {
+    let (write, program) = match words {
+        ["--write", program @ ..] => (true, program),
+        program => (false, program),
+    };
+    let mut races = Vec::new();
+    let mut tell = |race: Race| {
+        println!("{race}, {machine}");
+        races.push(race);
+    };
+    roots::all(&mut tell)?;
+    kernels::all(&mut tell)?;
+    records::codec(&mut tell)?;
+    records::all(&mut tell)?;
+    let files = programs::all(program, &mut |line| println!("{line}, {machine}"))?;
+    if write {
+        document::write(&races, &files, machine)?;
+        picture::write(&races, &files, machine)?;
+    }
+    Ok(())
+}
+
+/// Only what is not held beside the crate or the oracle.
+#[cfg(not(clarabel))]
+fn measured(_: &[&str], machine: &str) -> Result<(), String> {
+    roots::all(&mut |race: Race| println!("{race}, {machine}"))
 }

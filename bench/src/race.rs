@@ -1,15 +1,24 @@
 //! Two sides that do the same work, timed in turn within one run, so that a slow moment of the machine
 //! falls on both.
 
+use crate::clock;
 use std::fmt;
-use std::time::Instant;
 
-/// So many rounds where a turn is short.
-pub const ROUNDS: usize = 101;
+/// How many rounds there are, and which clock says how long a turn took, in nanoseconds.
+pub struct How {
+    pub rounds: usize,
+    pub clock: fn() -> f64,
+}
+
+/// For calls within this program.
+const CALLS: How = How {
+    rounds: 101,
+    clock: clock::of_thread,
+};
 
 /// What was timed, beside what, and the nanoseconds of one call on each side, round by round.
 pub struct Race {
-    pub what: &'static str,
+    pub what: String,
     pub beside: &'static str,
     rounds: Vec<(f64, f64)>,
 }
@@ -21,50 +30,51 @@ pub struct Spread {
     pub most: f64,
 }
 
-/// Runs both sides in turn, `ROUNDS` times.
+/// Runs both sides in turn, where a side makes calls within this program.
 pub fn race(
-    what: &'static str,
+    what: &str,
     beside: &'static str,
     calls: usize,
     ours: impl Fn() -> u64,
     theirs: impl Fn() -> u64,
 ) -> Result<Race, String> {
-    race_of_rounds(ROUNDS, what, beside, calls, ours, theirs)
+    let (ours, theirs) = (|| Ok(ours()), || Ok(theirs()));
+    race_as(&CALLS, what, beside, calls, ours, theirs)
 }
 
 /// Runs both sides in turn. A side makes `calls` calls and hands back a fold of its answers' bits; it is
 /// an error if the two sides' folds differ, since they then did not do the same work.
-pub fn race_of_rounds(
-    count: usize,
-    what: &'static str,
+pub fn race_as(
+    how: &How,
+    what: &str,
     beside: &'static str,
     calls: usize,
-    ours: impl Fn() -> u64,
-    theirs: impl Fn() -> u64,
+    ours: impl Fn() -> Result<u64, String>,
+    theirs: impl Fn() -> Result<u64, String>,
 ) -> Result<Race, String> {
     let mut rounds = Vec::new();
     // the first round fills the caches and wakes the processor, and is not counted
-    for round in 0..=count {
-        let (our_time, our_fold) = turn(&ours, calls);
-        let (their_time, their_fold) = turn(&theirs, calls);
+    for round in 0..=how.rounds {
+        let (our_time, our_fold) = turn(how.clock, &ours)?;
+        let (their_time, their_fold) = turn(how.clock, &theirs)?;
         if our_fold != their_fold {
             return Err(format!("{what}: the answers differ from {beside}"));
         }
         if round > 0 {
-            rounds.push((our_time, their_time));
+            rounds.push((our_time / calls as f64, their_time / calls as f64));
         }
     }
     Ok(Race {
-        what,
+        what: what.to_string(),
         beside,
         rounds,
     })
 }
 
-fn turn(side: &impl Fn() -> u64, calls: usize) -> (f64, u64) {
-    let start = Instant::now();
-    let fold = side();
-    (start.elapsed().as_nanos() as f64 / calls as f64, fold)
+fn turn(clock: fn() -> f64, side: &impl Fn() -> Result<u64, String>) -> Result<(f64, u64), String> {
+    let start = clock();
+    let fold = side()?;
+    Ok((clock() - start, fold))
 }
 
 impl Race {

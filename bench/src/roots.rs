@@ -32,16 +32,15 @@ fn roots(function: Root, numbers: &[f64]) -> u64 {
     fold
 }
 
-fn race_of_roots(what: &'static str, numbers: &[f64]) -> Result<Race, String> {
+fn race_of_roots(what: &str, numbers: &[f64]) -> Result<Race, String> {
     let ours = || roots(zanikory_root, numbers);
     let theirs = || roots(hardware_root, numbers);
     race(what, "hardware", numbers.len(), ours, theirs)
 }
 
-pub fn plain() -> Result<Race, String> {
-    race_of_roots("root", &inputs::normals(NUMBERS))
-}
-
-pub fn with_subnormals() -> Result<Race, String> {
-    race_of_roots("root, half subnormals", &inputs::half_subnormals(NUMBERS))
+pub fn all(tell: &mut dyn FnMut(Race)) -> Result<(), String> {
+    tell(race_of_roots("root", &inputs::normals(NUMBERS))?);
+    let numbers = inputs::half_subnormals(NUMBERS);
+    tell(race_of_roots("root, half subnormals", &numbers)?);
+    Ok(())
 }
