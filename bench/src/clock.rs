@@ -1,5 +1,7 @@
 //! Processor time in nanoseconds. What other programs of the machine take meanwhile is not in it, as it
 //! would be in the time of day.
+// processes are timed beside the oracle alone
+#![cfg_attr(not(clarabel), allow(dead_code))]
 
 use std::ffi::{c_int, c_long};
 

@@ -1,7 +1,7 @@
 //! The tables in docs/BENCHMARKS.md, between two lines that stay.
 
 use crate::programs::Files;
-use crate::race::{nanoseconds, Race};
+use crate::race::{nanoseconds, ratio_in_words, Race};
 use std::fs;
 
 const DOCUMENT: &str = "docs/BENCHMARKS.md";
@@ -32,10 +32,10 @@ fn table_of_races(races: &[Race]) -> String {
     for race in races {
         let (ours, theirs) = (nanoseconds(race.ours()), nanoseconds(race.theirs()));
         let ratio = race.ratio();
-        table += &format!(
-            "| {} | {ours} | {} | {theirs} | {:.2} | {:.2}, {:.2} |\n",
-            race.what, race.beside, ratio.median, ratio.least, ratio.most
-        );
+        let [least, median, most] = [ratio.least, ratio.median, ratio.most].map(ratio_in_words);
+        let (what, beside) = (&race.what, race.beside);
+        table +=
+            &format!("| {what} | {ours} | {beside} | {theirs} | {median} | {least}, {most} |\n");
     }
     table
 }

@@ -2,7 +2,7 @@
 //! record against the size of a file.
 
 use crate::programs::Files;
-use crate::race::{nanoseconds, Race};
+use crate::race::{nanoseconds, ratio_in_words, Race};
 use std::fs;
 
 const PICTURE: &str = "docs/benchmarks.svg";
@@ -18,6 +18,8 @@ const CURVES: f64 = 220.0;
 
 const INK: &str = "#222222";
 const GRID: &str = "#d8d8d8";
+/// A rim around letters, where they stand on the grid.
+const HALO: &str = "stroke=\"#ffffff\" stroke-width=\"3\" paint-order=\"stroke\"";
 const OURS: &str = "#b5541c";
 const THEIRS: &str = "#2f6f9f";
 
@@ -43,7 +45,7 @@ pub fn write(races: &[Race], files: &Files, machine: &str) -> Result<(), String>
         28.0,
         "start",
         16,
-        &format!("Times as long as what it is held beside, on {machine}"),
+        &format!("How many times as long ours takes, on {machine}"),
     );
     drawn += &legend();
     drawn += &scale(bottom);
@@ -57,7 +59,7 @@ pub fn write(races: &[Race], files: &Files, machine: &str) -> Result<(), String>
 
 fn text(x: f64, y: f64, anchor: &str, size: u32, words: &str) -> String {
     let words = words.replace('&', "&amp;").replace('<', "&lt;");
-    format!("<text x=\"{x:.1}\" y=\"{y:.1}\" text-anchor=\"{anchor}\" font-size=\"{size}\">{words}</text>\n")
+    format!("<text x=\"{x:.1}\" y=\"{y:.1}\" text-anchor=\"{anchor}\" font-size=\"{size}\" {HALO}>{words}</text>\n")
 }
 
 fn line(from: (f64, f64), to: (f64, f64), colour: &str) -> String {
@@ -67,13 +69,7 @@ fn line(from: (f64, f64), to: (f64, f64), colour: &str) -> String {
 
 /// The upper edge of each bar. Lines that are of one sort stand together.
 fn tops(races: &[Race]) -> Vec<f64> {
-    let sort = |race: &Race| {
-        let first = race
-            .what
-            .split_once(',')
-            .map(|(first, _)| first.to_string());
-        (first, race.beside)
-    };
+    let sort = |race: &Race| (race.beside, race.what.starts_with("record"));
     let mut top = TOP;
     let mut tops = vec![top];
     for pair in races.windows(2) {
@@ -123,7 +119,7 @@ fn bar(race: &Race, top: f64) -> String {
     let (_, colour, _) = found.expect("a known side");
     let (width, middle) = ((to - from).max(1.0), top + 0.7 * ROW);
     let (ours, theirs) = (nanoseconds(race.ours()), nanoseconds(race.theirs()));
-    let numbers = format!("{ratio:.2}  ({ours} / {theirs} ns)");
+    let numbers = format!("{}  ({ours} / {theirs} ns)", ratio_in_words(ratio));
     let mut drawn = text(LEFT - 10.0, middle, "end", 12, &race.what);
     drawn += &format!(
         "<rect x=\"{from:.1}\" y=\"{:.1}\" width=\"{width:.1}\" height=\"{:.1}\" fill=\"{colour}\"/>\n",

@@ -30,7 +30,11 @@ pub struct Spread {
     pub most: f64,
 }
 
-/// Runs both sides in turn, where a side makes calls within this program.
+/// A turn takes at least so many nanoseconds, since to look at the clock takes some hundred.
+const LEAST_TURN: f64 = 200_000.0;
+
+/// Runs both sides in turn, where a side makes `calls` calls within this program; in a turn that would be
+/// short it makes them several times.
 pub fn race(
     what: &str,
     beside: &'static str,
@@ -38,8 +42,16 @@ pub fn race(
     ours: impl Fn() -> u64,
     theirs: impl Fn() -> u64,
 ) -> Result<Race, String> {
-    let (ours, theirs) = (|| Ok(ours()), || Ok(theirs()));
-    race_as(&CALLS, what, beside, calls, ours, theirs)
+    let (our_time, _) = turn(CALLS.clock, &|| Ok(ours()))?;
+    let (their_time, _) = turn(CALLS.clock, &|| Ok(theirs()))?;
+    let times = (LEAST_TURN / our_time.min(their_time)).ceil() as usize;
+    let ours = || Ok(folded(times, &ours));
+    let theirs = || Ok(folded(times, &theirs));
+    race_as(&CALLS, what, beside, calls * times, ours, theirs)
+}
+
+fn folded(times: usize, side: impl Fn() -> u64) -> u64 {
+    (0..times).fold(0, |fold, _| fold.rotate_left(1) ^ side())
 }
 
 /// Runs both sides in turn. A side makes `calls` calls and hands back a fold of its answers' bits; it is
@@ -114,18 +126,28 @@ pub fn nanoseconds(x: f64) -> String {
     }
 }
 
+/// To three digits where it is below 100.
+pub fn ratio_in_words(x: f64) -> String {
+    if x < 10.0 {
+        format!("{x:.2}")
+    } else {
+        format!("{x:.1}")
+    }
+}
+
 impl fmt::Display for Race {
     fn fmt(&self, f: &mut fmt::Formatter) -> fmt::Result {
         let (ours, theirs) = (nanoseconds(self.ours()), nanoseconds(self.theirs()));
         let ratio = self.ratio();
-        write!(f, "{}: {ours} ns, {} {theirs} ns, ", self.what, self.beside)?;
+        let [least, median, most] = [ratio.least, ratio.median, ratio.most].map(ratio_in_words);
+        let (what, beside, rounds) = (&self.what, self.beside, self.rounds.len());
         write!(
             f,
-            "ratio {:.2} (median of {} interleaved rounds, {:.2}..{:.2})",
-            ratio.median,
-            self.rounds.len(),
-            ratio.least,
-            ratio.most
+            "{what}: {ours} ns, {beside} {theirs} ns, ratio {median} "
+        )?;
+        write!(
+            f,
+            "(median of {rounds} interleaved rounds, {least}..{most})"
         )
     }
 }
