@@ -50,8 +50,23 @@ pub fn half_subnormals(count: usize) -> Vec<f64> {
         .collect()
 }
 
+/// Numbers of ordinary size, N at a time.
 #[cfg(clarabel)]
-pub fn ordinary(count: usize) -> Vec<f64> {
+pub fn ordinary<const N: usize>(count: usize) -> Vec<[f64; N]> {
     let mut words = Words(3);
-    (0..count).map(|_| of_ordinary_size(&mut words)).collect()
+    let mut some = || std::array::from_fn(|_| of_ordinary_size(&mut words));
+    (0..count).map(|_| some()).collect()
+}
+
+/// The same with 4 added in some places. With these on the diagonal a symmetric matrix has a factor, and
+/// a factor has nothing small to divide by.
+#[cfg(clarabel)]
+pub fn with_diagonal<const N: usize>(count: usize, places: &[usize]) -> Vec<[f64; N]> {
+    let mut all = ordinary(count);
+    for numbers in &mut all {
+        for place in places {
+            numbers[*place] += 4.0;
+        }
+    }
+    all
 }

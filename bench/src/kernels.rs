@@ -1,20 +1,58 @@
 //! The proved kernels beside the crate's own, both from the numbers of a matrix to those of the answer.
 
-use crate::algebra::dense3x3::eigen::eigen_jacobi;
-use crate::algebra::{DenseMatrix3, DenseMatrixSym3};
 use crate::inputs;
 use crate::race::{race, Race};
+use reference::algebra::dense3x3::eigen::eigen_jacobi;
+use reference::algebra::{DenseMatrix3, DenseMatrixSym2, DenseMatrixSym3};
 use std::hint::black_box;
 
 /// So many matrices are worked on.
 const MATRICES: usize = 4096;
 
 /// Takes the numbers of a matrix, an array and its length, and writes those of the answer.
-type Kernel = unsafe extern "C" fn(*const f64, usize, *mut f64, usize) -> u8;
+type Spectrum = unsafe extern "C" fn(*const f64, usize, *mut f64, usize) -> u8;
+
+/// Takes an old factor and a matrix, and writes the factor.
+type Factor = unsafe extern "C" fn(*const f64, usize, *const f64, usize, *mut f64, usize) -> u8;
+
+/// Takes a factor, writes the solution, and takes the right side.
+type Solve = unsafe extern "C" fn(*const f64, usize, *mut f64, usize, *const f64, usize) -> u8;
 
 extern "C" {
-    fn zanikory_eigen_3x3(a: *const f64, a_length: usize, out: *mut f64, out_length: usize) -> u8;
-    fn zanikory_svd_3x3(a: *const f64, a_length: usize, out: *mut f64, out_length: usize) -> u8;
+    fn zanikory_eigen_3x3(a: *const f64, m: usize, out: *mut f64, n: usize) -> u8;
+    fn zanikory_svd_3x3(a: *const f64, m: usize, out: *mut f64, n: usize) -> u8;
+    fn zanikory_cholesky_2x2_factor(
+        l: *const f64,
+        l_length: usize,
+        a: *const f64,
+        a_length: usize,
+        out: *mut f64,
+        out_length: usize,
+    ) -> u8;
+    fn zanikory_cholesky_3x3_factor(
+        l: *const f64,
+        l_length: usize,
+        a: *const f64,
+        a_length: usize,
+        out: *mut f64,
+        out_length: usize,
+    ) -> u8;
+    fn zanikory_cholesky_2x2_solve(
+        l: *const f64,
+        l_length: usize,
+        x: *mut f64,
+        x_length: usize,
+        b: *const f64,
+        b_length: usize,
+    ) -> u8;
+    fn zanikory_cholesky_3x3_solve(
+        l: *const f64,
+        l_length: usize,
+        x: *mut f64,
+        x_length: usize,
+        b: *const f64,
+        b_length: usize,
+    ) -> u8;
 }
 
 // The crate's kernels stand behind calls of the same shape, so that both sides pay for one.
@@ -49,16 +87,123 @@ unsafe extern "C" fn crate_svd_3x3(a: *const f64, _: usize, out: *mut f64, _: us
     0
 }
 
-/// Folds the bits of all answers into one word, so that each number is needed. Both sides run through
-/// this one loop, and the compiler cannot see which function it calls.
 #[inline(never)]
-fn answers<const N: usize, const M: usize>(kernel: Kernel, matrices: &[[f64; N]]) -> u64 {
+unsafe extern "C" fn crate_factor_2x2(
+    l: *const f64,
+    _: usize,
+    a: *const f64,
+    _: usize,
+    out: *mut f64,
+    _: usize,
+) -> u8 {
+    // SAFETY: the caller lends arrays of 3, and the one that is written overlaps no other.
+    let (l, a, out) = unsafe { (&*l.cast(), &*a.cast(), &mut *out.cast::<[f64; 3]>()) };
+    let mut l = DenseMatrixSym2 { data: *l };
+    let done = l.cholesky_2x2_explicit_factor(&DenseMatrixSym2 { data: *a });
+    *out = l.data;
+    u8::from(done.is_err())
+}
+
+#[inline(never)]
+unsafe extern "C" fn crate_factor_3x3(
+    l: *const f64,
+    _: usize,
+    a: *const f64,
+    _: usize,
+    out: *mut f64,
+    _: usize,
+) -> u8 {
+    // SAFETY: the caller lends arrays of 6, and the one that is written overlaps no other.
+    let (l, a, out) = unsafe { (&*l.cast(), &*a.cast(), &mut *out.cast::<[f64; 6]>()) };
+    let mut l = DenseMatrixSym3 { data: *l };
+    let done = l.cholesky_3x3_explicit_factor(&DenseMatrixSym3 { data: *a });
+    *out = l.data;
+    u8::from(done.is_err())
+}
+
+#[inline(never)]
+unsafe extern "C" fn crate_solve_2x2(
+    l: *const f64,
+    _: usize,
+    x: *mut f64,
+    _: usize,
+    b: *const f64,
+    _: usize,
+) -> u8 {
+    // SAFETY: the caller lends arrays of 3, 2 and 2, and the one that is written overlaps no other.
+    let (l, x, b) = unsafe {
+        (
+            &*l.cast(),
+            &mut *x.cast::<[f64; 2]>(),
+            &*b.cast::<[f64; 2]>(),
+        )
+    };
+    DenseMatrixSym2 { data: *l }.cholesky_2x2_explicit_solve(x, b);
+    0
+}
+
+#[inline(never)]
+unsafe extern "C" fn crate_solve_3x3(
+    l: *const f64,
+    _: usize,
+    x: *mut f64,
+    _: usize,
+    b: *const f64,
+    _: usize,
+) -> u8 {
+    // SAFETY: the caller lends arrays of 6, 3 and 3, and the one that is written overlaps no other.
+    let (l, x, b) = unsafe {
+        (
+            &*l.cast(),
+            &mut *x.cast::<[f64; 3]>(),
+            &*b.cast::<[f64; 3]>(),
+        )
+    };
+    DenseMatrixSym3 { data: *l }.cholesky_3x3_explicit_solve(x, b);
+    0
+}
+
+// Each shape of call as one from N numbers to M. Both sides of a race come from the same function here,
+// so they run through one loop, and the compiler cannot see which kernel it calls.
+
+fn of_spectrum<const N: usize, const M: usize>(
+    kernel: Spectrum,
+) -> impl Fn(&[f64; N], &mut [f64; M]) -> u8 {
     let kernel = black_box(kernel);
+    // SAFETY: both kernels take any numbers in an array of N, and write M.
+    move |a, out| unsafe { kernel(a.as_ptr(), N, out.as_mut_ptr(), M) }
+}
+
+/// The old factor is zeros.
+fn of_factor<const N: usize>(kernel: Factor) -> impl Fn(&[f64; N], &mut [f64; N]) -> u8 {
+    let kernel = black_box(kernel);
+    let old = [0.0; N];
+    // SAFETY: both kernels take any numbers in two arrays of N, and write N.
+    move |a, out| unsafe { kernel(old.as_ptr(), N, a.as_ptr(), N, out.as_mut_ptr(), N) }
+}
+
+/// The factor comes first of the N numbers, and then the right side.
+fn of_solve<const N: usize, const M: usize>(
+    kernel: Solve,
+) -> impl Fn(&[f64; N], &mut [f64; M]) -> u8 {
+    let kernel = black_box(kernel);
+    move |given, x| {
+        let (l, b) = given.split_at(N - M);
+        // SAFETY: both kernels take any numbers in arrays of N - M and M, and write M.
+        unsafe { kernel(l.as_ptr(), N - M, x.as_mut_ptr(), M, b.as_ptr(), M) }
+    }
+}
+
+/// Folds the bits of all answers into one word, so that each number is needed.
+#[inline(never)]
+fn answers<const N: usize, const M: usize>(
+    call: &impl Fn(&[f64; N], &mut [f64; M]) -> u8,
+    given: &[[f64; N]],
+) -> u64 {
     let mut fold = 0u64;
-    for a in matrices {
+    for numbers in given {
         let mut out = [0.0; M];
-        // SAFETY: both functions take any numbers in an array of N, and write M.
-        let code = unsafe { kernel(a.as_ptr(), N, out.as_mut_ptr(), M) };
+        let code = call(numbers, &mut out);
         for x in black_box(out) {
             fold = fold.rotate_left(1) ^ x.to_bits();
         }
@@ -67,26 +212,54 @@ fn answers<const N: usize, const M: usize>(kernel: Kernel, matrices: &[[f64; N]]
     fold
 }
 
-/// Two kernels from N numbers to M, on matrices of numbers from -1 to 1.
-fn race_of_kernels<const N: usize, const M: usize>(
-    what: &'static str,
-    ours: Kernel,
-    theirs: Kernel,
+fn race_of_calls<const N: usize, const M: usize, C: Fn(&[f64; N], &mut [f64; M]) -> u8>(
+    what: &str,
+    given: &[[f64; N]],
+    ours: C,
+    theirs: C,
 ) -> Result<Race, String> {
-    let numbers = inputs::ordinary(N * MATRICES);
-    let matrices: Vec<[f64; N]> = numbers
-        .chunks_exact(N)
-        .map(|a| a.try_into().expect("N numbers"))
-        .collect();
-    let ours = || answers::<N, M>(ours, &matrices);
-    let theirs = || answers::<N, M>(theirs, &matrices);
-    race(what, "Rust", matrices.len(), ours, theirs)
+    let ours = || answers(&ours, given);
+    let theirs = || answers(&theirs, given);
+    race(what, "crate", given.len(), ours, theirs)
 }
 
-pub fn eigen_3x3() -> Result<Race, String> {
-    race_of_kernels::<6, 18>("eigen 3x3", zanikory_eigen_3x3, crate_eigen_3x3)
+fn factors() -> Result<[Race; 2], String> {
+    let sides: [Factor; 2] = [zanikory_cholesky_2x2_factor, crate_factor_2x2];
+    let [ours, theirs] = sides.map(of_factor::<3>);
+    let matrices = inputs::with_diagonal(MATRICES, &[0, 2]);
+    let two = race_of_calls("Cholesky 2x2", &matrices, ours, theirs)?;
+    let sides: [Factor; 2] = [zanikory_cholesky_3x3_factor, crate_factor_3x3];
+    let [ours, theirs] = sides.map(of_factor::<6>);
+    let matrices = inputs::with_diagonal(MATRICES, &[0, 2, 5]);
+    let three = race_of_calls("Cholesky 3x3", &matrices, ours, theirs)?;
+    Ok([two, three])
 }
 
-pub fn svd_3x3() -> Result<Race, String> {
-    race_of_kernels::<9, 30>("svd 3x3", zanikory_svd_3x3, crate_svd_3x3)
+fn solutions() -> Result<[Race; 2], String> {
+    let sides: [Solve; 2] = [zanikory_cholesky_2x2_solve, crate_solve_2x2];
+    let [ours, theirs] = sides.map(of_solve::<5, 2>);
+    let given = inputs::with_diagonal(MATRICES, &[0, 2]);
+    let two = race_of_calls("solve 2x2", &given, ours, theirs)?;
+    let sides: [Solve; 2] = [zanikory_cholesky_3x3_solve, crate_solve_3x3];
+    let [ours, theirs] = sides.map(of_solve::<9, 3>);
+    let given = inputs::with_diagonal(MATRICES, &[0, 2, 5]);
+    let three = race_of_calls("solve 3x3", &given, ours, theirs)?;
+    Ok([two, three])
+}
+
+fn spectra() -> Result<[Race; 2], String> {
+    let sides: [Spectrum; 2] = [zanikory_eigen_3x3, crate_eigen_3x3];
+    let [ours, theirs] = sides.map(of_spectrum::<6, 18>);
+    let eigen = race_of_calls("eigen 3x3", &inputs::ordinary(MATRICES), ours, theirs)?;
+    let sides: [Spectrum; 2] = [zanikory_svd_3x3, crate_svd_3x3];
+    let [ours, theirs] = sides.map(of_spectrum::<9, 30>);
+    let svd = race_of_calls("SVD 3x3", &inputs::ordinary(MATRICES), ours, theirs)?;
+    Ok([eigen, svd])
+}
+
+pub fn all(tell: &mut dyn FnMut(Race)) -> Result<(), String> {
+    factors()?.into_iter().for_each(&mut *tell);
+    solutions()?.into_iter().for_each(&mut *tell);
+    spectra()?.into_iter().for_each(tell);
+    Ok(())
 }

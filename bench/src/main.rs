@@ -1,80 +1,69 @@
-//! Times the proved functions beside what does the same work in Rust or in hardware. One function makes
-//! each printed line, and `LINES` names them all.
+//! Times the proved functions beside what does the same work in Rust or in hardware, and prints a line for
+//! each. `bench [--write] PROGRAM..` from the repository's root, where PROGRAM are the words that start the
+//! program on this processor; with --write the table and the picture in docs/ are made anew.
 
+mod clock;
 #[cfg(clarabel)]
-mod algebra;
+mod document;
 mod inputs;
 #[cfg(clarabel)]
 mod kernels;
 mod machine;
+#[cfg(clarabel)]
+mod memory;
+#[cfg(clarabel)]
+mod picture;
+#[cfg(clarabel)]
+mod programs;
 mod race;
+#[cfg(clarabel)]
+mod records;
+mod roots;
+#[cfg(clarabel)]
+mod straight;
 
-use race::{race, Race};
-use std::hint::black_box;
+use race::Race;
 use std::process::ExitCode;
 
-/// Those beside the crate's own kernels are there only where its source is.
-const LINES: &[fn() -> Result<Race, String>] = &[
-    root,
-    root_with_subnormals,
-    #[cfg(clarabel)]
-    kernels::eigen_3x3,
-    #[cfg(clarabel)]
-    kernels::svd_3x3,
-];
-
-/// So many numbers stay in the nearest cache, and a turn over them is far longer than a tick of the clock.
-const NUMBERS: usize = 4096;
-
-type Root = unsafe extern "C" fn(f64) -> f64;
-
-extern "C" {
-    fn zanikory_root(x: f64) -> f64;
-}
-
-/// The processor's own root behind a call of the same shape, so that both sides pay for one.
-#[inline(never)]
-extern "C" fn hardware_root(x: f64) -> f64 {
-    x.sqrt()
-}
-
-/// Folds the bits of all answers into one word, so that each answer is needed. Both sides run through
-/// this one loop, and the compiler cannot see which function it calls.
-#[inline(never)]
-fn roots(function: Root, numbers: &[f64]) -> u64 {
-    let function = black_box(function);
-    let mut fold = 0u64;
-    for &x in numbers {
-        // SAFETY: both functions take every double.
-        fold = fold.rotate_left(1) ^ unsafe { function(x) }.to_bits();
-    }
-    fold
-}
-
-fn race_of_roots(what: &'static str, numbers: &[f64]) -> Result<Race, String> {
-    let ours = || roots(zanikory_root, numbers);
-    let theirs = || roots(hardware_root, numbers);
-    race(what, "hardware", numbers.len(), ours, theirs)
-}
-
-fn root() -> Result<Race, String> {
-    race_of_roots("root", &inputs::normals(NUMBERS))
-}
-
-fn root_with_subnormals() -> Result<Race, String> {
-    race_of_roots("root, half subnormals", &inputs::half_subnormals(NUMBERS))
-}
-
 fn main() -> ExitCode {
+    let words: Vec<String> = std::env::args().skip(1).collect();
+    let words: Vec<&str> = words.iter().map(String::as_str).collect();
     let machine = machine::kind();
-    for line in LINES {
-        match line() {
-            Ok(race) => println!("{race}, {machine}"),
-            Err(why) => {
-                eprintln!("bench: {why}");
-                return ExitCode::FAILURE;
-            }
+    match measured(&words, &machine) {
+        Ok(()) => ExitCode::SUCCESS,
+        Err(why) => {
+            eprintln!("bench: {why}");
+            ExitCode::FAILURE
         }
     }
-    ExitCode::SUCCESS
+}
+
+/// All that is measured, in the order of the lines.
+#[cfg(clarabel)]
+fn measured(words: &[&str], machine: &str) -> Result<(), String> {
+    let (write, program) = match words {
+        ["--write", program @ ..] => (true, program),
+        program => (false, program),
+    };
+    let mut races = Vec::new();
+    let mut tell = |race: Race| {
+        println!("{race}, {machine}");
+        races.push(race);
+    };
+    roots::all(&mut tell)?;
+    kernels::all(&mut tell)?;
+    records::codec(&mut tell)?;
+    records::all(&mut tell)?;
+    let files = programs::all(program, &mut |line| println!("{line}, {machine}"))?;
+    if write {
+        document::write(&races, &files, machine)?;
+        picture::write(&races, &files, machine)?;
+    }
+    Ok(())
+}
+
+/// Only what is not held beside the crate or the oracle.
+#[cfg(not(clarabel))]
+fn measured(_: &[&str], machine: &str) -> Result<(), String> {
+    roots::all(&mut |race: Race| println!("{race}, {machine}"))
 }
