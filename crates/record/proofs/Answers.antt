@@ -3,13 +3,13 @@ use mathlib.Core.Path.{_≡_, refl, sym, ap, _∙_}
 use mathlib.Core.Logic.{_⊎_, inl, inr, ⊎-elim}
 use mathlib.Core.Bool.{true}
 use mathlib.Core.List.{List, _∷_}
-use Prim.Native.Nat.{ℕ, zero, suc, _+_, _*_, _≤_}
+use Prim.Native.Nat.{ℕ, zero, suc, _+_, _-_, _*_, _≤_}
 use native.Mathlib.Nat.{mul-zero, mul-suc}
 use native.Mathlib.Omega.{arith}
 use borrow.Author.Tests.{eq-eqb, ne-eqb}
 use lib.Dec.{eqb}
 use lib.ListN.{length, getD, take, drop, replicate, length-append, length-take, length-drop, replicate-append-replicate}
-use lib.Seq.{length-take-le, getD-append-add, drop-append-add}
+use lib.Seq.{length-take-le, getD-append-add, drop-append-add, drop-drop}
 use lib.Ieee.{Format}
 use Rattle.float.specs.Sign.{allFinite}
 use Rattle.float.proofs.Choice.{chosen, by-eqb}
@@ -19,7 +19,7 @@ use Rattle.kinds.specs.Slots.{nineUsed, threeUsed}
 use Rattle.kinds.specs.Work.{KindAnswer, refusedKind, workOf}
 use Rattle.kinds.proofs.Most.{nine-most, three-most}
 use Rattle.kinds.proofs.Works.{Sized, work-sized, Clear, work-clear, work-five}
-use Rattle.record.specs.Layout.{numberBytes, eventBytes, nineAt, threeAt, placeOf, requestSize, codeAt, answerSize}
+use Rattle.record.specs.Layout.{numberBytes, eventBytes, numbersAt, nineAt, threeAt, placeOf, requestSize, codeAt, answerSize}
 use Rattle.record.specs.Bytes.{numberAt, numbersFrom}
 use Rattle.record.specs.Request.{kindOf, formOf, usedFinite, judgedOf}
 use Rattle.record.specs.Answer.{recordOf, Step, stepOf}
@@ -83,20 +83,23 @@ no-room f s a n = rw (ne-eqb (length a) (answerSize f) n)
 pub code-unless-2 : (f : Format) (s a : List ℕ) → (stepOf f s a .code ≡ 2 → ⊥) → getD (stepOf f s a .answer) codeAt 0 ≡ stepOf f s a .code
 code-unless-2 f s a k = ⊎-elim (λ (e : length a ≡ answerSize f). code-in-place f s a e) (λ (n : length a ≡ answerSize f → ⊥). absurd (k (no-room f s a n))) (same? (length a) (answerSize f))
 
--- ---- with a code other than 0 every byte from the mark in byte 7 on is zero
+-- ---- with a code other than 0 the mark is zero, and every byte from 8 to the end
 
-record-clear : (f : Format) (event : List ℕ) (kind code pivot : ℕ) → length event ≡ 4 → drop 7 (recordOf f event kind (refusedKind f code pivot)) ≡ 0 ∷ replicate (numberBytes f * 21) 0
+record-clear : (f : Format) (event : List ℕ) (kind code pivot : ℕ) → length event ≡ 4 → drop 7 (recordOf f event kind (refusedKind f code pivot)) ≡ 0 ∷ replicate (answerSize f - numbersAt) 0
 unfolding recordOf
 record-clear f event kind code pivot h =
-    let e : numberBytes f * 3 + (numberBytes f * 9 + numberBytes f * 9) ≡ numberBytes f * 21 = omega arith in
+    let e : numberBytes f * 3 + (numberBytes f * 9 + numberBytes f * 9) ≡ answerSize f - numbersAt = omega arith in
     ap (λ (k : ℕ). drop (k + 3) (recordOf f event kind (refusedKind f code pivot))) (sym h)
     ∙ drop-append-add event _ 3
     ∙ ap (λ (l : List ℕ). 0 ∷ l) (rw (zeros-bytes f 3, zeros-bytes f 9, replicate-append-replicate {A = ℕ} (numberBytes f * 9) (numberBytes f * 9) 0, replicate-append-replicate {A = ℕ} (numberBytes f * 3) (numberBytes f * 9 + numberBytes f * 9) 0, e))
 
-pub refused-clear : (f : Format) (s a : List ℕ) → length a ≡ answerSize f → (stepOf f s a .code ≡ 0 → ⊥) → drop 7 (stepOf f s a .answer) ≡ 0 ∷ replicate (numberBytes f * 21) 0
-refused-clear f s a h =
-    each-record (λ (t : Step). (t .code ≡ 0 → ⊥) → drop 7 (t .answer) ≡ 0 ∷ replicate (numberBytes f * 21) 0) f s a h
+pub refused-unmarked : (f : Format) (s a : List ℕ) → length a ≡ answerSize f → (stepOf f s a .code ≡ 0 → ⊥) → drop 7 (stepOf f s a .answer) ≡ 0 ∷ replicate (answerSize f - numbersAt) 0
+refused-unmarked f s a h =
+    each-record (λ (t : Step). (t .code ≡ 0 → ⊥) → drop 7 (t .answer) ≡ 0 ∷ replicate (answerSize f - numbersAt) 0) f s a h
     (λ event kind w e _ c k. ap (λ (w : KindAnswer). drop 7 (recordOf f event kind w)) (c k) ∙ record-clear f event kind (w .code) (w .count) e)
+
+pub refused-clear : (f : Format) (s a : List ℕ) → length a ≡ answerSize f → (stepOf f s a .code ≡ 0 → ⊥) → drop numbersAt (stepOf f s a .answer) ≡ replicate (answerSize f - numbersAt) 0
+refused-clear f s a h k = sym (drop-drop 1 7 (stepOf f s a .answer)) ∙ ap (drop 1) (refused-unmarked f s a h k)
 
 -- ---- after the record's test no kernel gives 5
 
