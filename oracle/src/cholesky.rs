@@ -143,63 +143,79 @@ fn matrix(random: &mut Random, places: &mut [f64]) -> Factor {
             Factor::Product
         }
         2 | 3 => {
-            // the last column lies nearly in the plane, or on the line, of the others
-            let mut m = vectors(random);
-            let noise = power_of_two(whole(random, -56, -1));
-            for row in &mut m {
-                row[n - 1] = sum(row[..n - 1].iter().copied()) + noise * even(random);
-            }
-            products(&m, n, places);
+            products(&nearly_flat(random, n), n, places);
             scale(random, places);
             Factor::NearlySingular
         }
         4 => {
-            // upper triangular, so that its diagonal has the pivots' roots
-            let mut m = [[0.0; 3]; 3];
-            for r in 0..n {
-                m[r][r] = whole(random, 0, 3) as f64;
-                for c in r + 1..n {
-                    m[r][c] = whole(random, -3, 3) as f64;
-                }
-            }
-            products(&m, n, places);
+            products(&triangular(random, n), n, places);
             Factor::Whole
         }
         5 => {
-            for (i, x) in places.iter_mut().enumerate() {
-                let diagonal = matches!(i, 0 | 2 | 5);
-                *x = if diagonal && random.below(4) > 0 {
-                    1.0
-                } else {
-                    zero(random)
-                };
-            }
+            ones_and_zeros(random, places);
             Factor::Zeros
         }
         6 => {
-            // a first pivot so small that a quotient by its root overflows
-            for x in places.iter_mut() {
-                *x = about(random, 1023);
-                if random.below(3) == 0 {
-                    *x = zero(random);
-                }
-            }
-            for i in [0, 2, 5] {
-                if i < places.len() {
-                    places[i] = places[i].abs();
-                }
-            }
-            let e = whole(random, -1074, -900);
-            places[0] = about(random, e).abs();
-            if random.bits(1) == 0 {
-                places[1] = zero(random);
-            }
+            far(random, places);
             Factor::Far
         }
         _ => {
             fill(random, places);
             Factor::Any
         }
+    }
+}
+
+/// The last of n columns lies nearly in the plane, or on the line, of the others.
+fn nearly_flat(random: &mut Random, n: usize) -> [[f64; 3]; 3] {
+    let mut m = vectors(random);
+    let noise = power_of_two(whole(random, -56, -1));
+    for row in &mut m {
+        row[n - 1] = sum(row[..n - 1].iter().copied()) + noise * even(random);
+    }
+    m
+}
+
+/// Upper triangular and of whole numbers, so that its diagonal has the pivots' roots.
+fn triangular(random: &mut Random, n: usize) -> [[f64; 3]; 3] {
+    let mut m = [[0.0; 3]; 3];
+    for r in 0..n {
+        m[r][r] = whole(random, 0, 3) as f64;
+        for c in r + 1..n {
+            m[r][c] = whole(random, -3, 3) as f64;
+        }
+    }
+    m
+}
+
+fn ones_and_zeros(random: &mut Random, places: &mut [f64]) {
+    for (i, x) in places.iter_mut().enumerate() {
+        let diagonal = matches!(i, 0 | 2 | 5);
+        *x = if diagonal && random.below(4) > 0 {
+            1.0
+        } else {
+            zero(random)
+        };
+    }
+}
+
+/// A first pivot so small that a quotient by its root overflows.
+fn far(random: &mut Random, places: &mut [f64]) {
+    for x in places.iter_mut() {
+        *x = about(random, 1023);
+        if random.below(3) == 0 {
+            *x = zero(random);
+        }
+    }
+    for i in [0, 2, 5] {
+        if i < places.len() {
+            places[i] = places[i].abs();
+        }
+    }
+    let e = whole(random, -1074, -900);
+    places[0] = about(random, e).abs();
+    if random.bits(1) == 0 {
+        places[1] = zero(random);
     }
 }
 
@@ -340,23 +356,7 @@ fn count_factor(old: &[f64], a: &[f64], code: u64, pivot: u64, l: &[f64], hits: 
             if spoilt {
                 hit(Factor::OldPivot);
             }
-            hit(match pivot {
-                1 => refused(
-                    a[0],
-                    [Factor::Below1, Factor::PlusZero1, Factor::MinusZero1],
-                    Factor::Below1,
-                ),
-                2 => refused(
-                    a[2] - l[1] * l[1],
-                    [Factor::Below2, Factor::PlusZero2, Factor::MinusZero2],
-                    Factor::Infinite2,
-                ),
-                _ => refused(
-                    a[5] - l[3] * l[3] - l[4] * l[4],
-                    [Factor::Below3, Factor::PlusZero3, Factor::MinusZero3],
-                    Factor::Infinite3,
-                ),
-            });
+            hit(refused_pivot(pivot, a, l));
         }
         _ => {
             hit(Factor::Answer);
@@ -364,6 +364,27 @@ fn count_factor(old: &[f64], a: &[f64], code: u64, pivot: u64, l: &[f64], hits: 
                 hit(Factor::OldAnswer);
             }
         }
+    }
+}
+
+/// The branch of the pivot with this number, by the factor as far as it was written.
+fn refused_pivot(pivot: u64, a: &[f64], l: &[f64]) -> Factor {
+    match pivot {
+        1 => refused(
+            a[0],
+            [Factor::Below1, Factor::PlusZero1, Factor::MinusZero1],
+            Factor::Below1,
+        ),
+        2 => refused(
+            a[2] - l[1] * l[1],
+            [Factor::Below2, Factor::PlusZero2, Factor::MinusZero2],
+            Factor::Infinite2,
+        ),
+        _ => refused(
+            a[5] - l[3] * l[3] - l[4] * l[4],
+            [Factor::Below3, Factor::PlusZero3, Factor::MinusZero3],
+            Factor::Infinite3,
+        ),
     }
 }
 

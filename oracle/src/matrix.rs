@@ -463,28 +463,33 @@ fn quad_form(input: &[u64], out: &mut [u64], hits: &mut Hits) {
         let answer = a.quad_form(y, x);
         if answer.is_finite() {
             out[1] = bits(answer);
-            hit(QuadForm::Done);
-            let product = |i: usize| {
-                let row = std::array::from_fn::<f64, 3, _>(|j| a[(i, j)] * x[j]);
-                (y[i] * (row[0] + row[1] + row[2])).to_bits()
-            };
-            for (branch, met) in [
-                (QuadForm::LongY, y.len() > 3),
-                (QuadForm::LongX, x.len() > 3),
-                (QuadForm::PastY, !all_finite(&y[3..])),
-                (QuadForm::PastX, !all_finite(&x[3..])),
-                (QuadForm::Zero, (0..3).all(|i| product(i) == SIGN)),
-            ] {
-                if met {
-                    hit(branch);
-                }
-            }
+            count_quad_form(&a, y, x, hits);
             DONE
         } else {
             hit(QuadForm::Answer);
             ANSWER_NOT_FINITE
         }
     };
+}
+
+/// A good answer: what lies past the three numbers of each slice, and a sum of -0 alone.
+fn count_quad_form(a: &DenseMatrixSymN<6, f64>, y: &[f64], x: &[f64], hits: &mut Hits) {
+    hits.hit(QuadForm::Done as usize);
+    let product = |i: usize| {
+        let row = std::array::from_fn::<f64, 3, _>(|j| a[(i, j)] * x[j]);
+        (y[i] * (row[0] + row[1] + row[2])).to_bits()
+    };
+    for (branch, met) in [
+        (QuadForm::LongY, y.len() > 3),
+        (QuadForm::LongX, x.len() > 3),
+        (QuadForm::PastY, !all_finite(&y[3..])),
+        (QuadForm::PastX, !all_finite(&x[3..])),
+        (QuadForm::Zero, (0..3).all(|i| product(i) == SIGN)),
+    ] {
+        if met {
+            hits.hit(branch as usize);
+        }
+    }
 }
 
 branches!(NormFro {

@@ -92,16 +92,20 @@ pub fn eigen(count: u64, seed: u64) {
             }
         }
     }
-    for (goal, best) in GOALS.iter().zip(&best) {
+    report(&best);
+    println!("matrices by their rotations, of {count}, with {unsettled} not settled:");
+    for (rotations, count) in lengths.iter().enumerate() {
+        println!("    {rotations:2} {count}");
+    }
+}
+
+fn report(best: &[Option<Best>]) {
+    for (goal, best) in GOALS.iter().zip(best) {
         println!("{}:", goal.name);
         match best {
             Some(best) => show(best.a),
             None => println!("    none"),
         }
-    }
-    println!("matrices by their rotations, of {count}, with {unsettled} not settled:");
-    for (rotations, count) in lengths.iter().enumerate() {
-        println!("    {rotations:2} {count}");
     }
 }
 

@@ -539,39 +539,46 @@ fn matrix2(random: &mut Random) -> [f64; 4] {
             }
             _ => about(random, 1023),
         }),
-        6 => {
-            // of rank one
-            let [x, y, z, w] = a.map(|_| even(random));
-            [x * z, y * z, x * w, y * w]
-        }
-        7 => {
-            // a turn or a reflection
-            let (c, s) = turn(even(random));
-            match random.bits(1) {
-                0 => [c, s, -s, c],
-                _ => [c, s, s, -c],
-            }
-        }
+        6 => rank_one2(random),
+        7 => orthogonal2(random),
         8 => {
             let x = even(random);
             a.map(|_| with_sign(random, x))
         }
-        9 => {
-            // symmetric with a diagonal far apart: the square of theta overflows
-            let [x, y] = [0; 2].map(|_| about(random, e));
-            let e = whole(random, -1074, (e - 440).max(-1074));
-            let z = about(random, e);
-            [x, z, z, y]
-        }
-        10 => {
-            // symmetric with a level diagonal
-            let size = about(random, e).abs();
-            let [x, y] = [0; 2].map(|_| beside(random, size, 2));
-            let z = size * even(random);
-            [x, z, z, y]
-        }
+        9 => far_apart2(random, e),
+        10 => level2(random, e),
         _ => a.map(|_| even(random)),
     }
+}
+
+fn rank_one2(random: &mut Random) -> [f64; 4] {
+    let [x, y, z, w] = [0.0; 4].map(|_| even(random));
+    [x * z, y * z, x * w, y * w]
+}
+
+/// A turn or a reflection.
+fn orthogonal2(random: &mut Random) -> [f64; 4] {
+    let (c, s) = turn(even(random));
+    match random.bits(1) {
+        0 => [c, s, -s, c],
+        _ => [c, s, s, -c],
+    }
+}
+
+/// Symmetric with a diagonal far apart: the square of theta overflows.
+fn far_apart2(random: &mut Random, e: i64) -> [f64; 4] {
+    let [x, y] = [0; 2].map(|_| about(random, e));
+    let e = whole(random, -1074, (e - 440).max(-1074));
+    let z = about(random, e);
+    [x, z, z, y]
+}
+
+/// Symmetric with a level diagonal.
+fn level2(random: &mut Random, e: i64) -> [f64; 4] {
+    let size = about(random, e).abs();
+    let [x, y] = [0; 2].map(|_| beside(random, size, 2));
+    let z = size * even(random);
+    [x, z, z, y]
 }
 
 /// The values, U and V, where all of them are finite.
@@ -797,12 +804,7 @@ fn count_ordered(diagonal: &[f64], hits: &mut Hits) {
             hits.hit(branch as usize);
         }
     }
-    let of = [Ordered::Flip1, Ordered::Flip2, Ordered::Flip3];
-    for (branch, x) in of.into_iter().zip(diagonal) {
-        if x.is_sign_negative() {
-            hits.hit(branch as usize);
-        }
-    }
+    count_flips(diagonal, hits);
     let sizes = &three[..n];
     let twice = |i: usize| sizes[..i].iter().any(|size| *size == sizes[i]);
     for (branch, met) in [
@@ -817,6 +819,15 @@ fn count_ordered(diagonal: &[f64], hits: &mut Hits) {
         (Ordered::Infinite, diagonal.iter().any(|x| x.is_infinite())),
     ] {
         if met {
+            hits.hit(branch as usize);
+        }
+    }
+}
+
+fn count_flips(diagonal: &[f64], hits: &mut Hits) {
+    let of = [Ordered::Flip1, Ordered::Flip2, Ordered::Flip3];
+    for (branch, x) in of.into_iter().zip(diagonal) {
+        if x.is_sign_negative() {
             hits.hit(branch as usize);
         }
     }
