@@ -8,16 +8,12 @@ use lib.Dec.{eqb}
 use lib.ListN.{length}
 use lib.Ieee.{Format}
 use Rattle.float.specs.Choice.{pick}
-use Rattle.float.specs.Sign.{allFinite}
-use Rattle.float.proofs.Finite.{both-true}
-use Rattle.matrix.proofs.Tables.{first-tabulate}
-use Rattle.kinds.specs.Slots.{knownKind, nineUsed, threeUsed}
+use Rattle.kinds.specs.Slots.{knownKind}
 use Rattle.kinds.specs.Work.{KindAnswer, refusedKind, workOf}
-use Rattle.kinds.proofs.Most.{nine-most, three-most}
-use Rattle.record.specs.Layout.{nineAt, threeAt, placeOf, requestSize, answerSize}
-use Rattle.record.specs.Bytes.{numberAt, numbersFrom}
+use Rattle.record.specs.Layout.{requestSize, answerSize}
 use Rattle.record.specs.Request.{kindOf, reservedZero, unusedZero, formOf, usedFinite, judgedOf}
 use Rattle.record.specs.Answer.{Step, stepOf}
+use Rattle.record.proofs.Used.{used-numbers}
 use Rattle.promises.specs.Conditions.{nineOf, threeOf, outputLength, inputLength, unknownKind, notZero, inputNotFinite, pivotNotAbove, answerNotFinite, Exactly, Codes}
 use Rattle.promises.proofs.Kernels.{kind-code}
 use Rattle.promises.proofs.Rows.{Row, firstRow, exact, none}
@@ -38,12 +34,7 @@ module _ (f : Format) (s a : List ℕ) where
   lastRows = pick (pivotNotAbove f s a) 6 (pick (answerNotFinite f s a) 7 0)
 
   work-rows : knownKind (kindOf s) ≡ true → usedFinite f (kindOf s) s ≡ true → workOf f (kindOf s) (nineOf f s a) (threeOf f s a) .code ≡ lastRows
-  work-rows k u =
-      let kind = kindOf s in
-      let used = both-true (allFinite (numbersFrom f (nineUsed kind) nineAt s)) (allFinite (numbersFrom f (threeUsed kind) (threeAt f) s)) u in
-      kind-code f kind (nineOf f s a) (threeOf f s a) k
-      (ap allFinite (first-tabulate (nineUsed kind) 9 (λ (i : ℕ). numberAt f (placeOf f nineAt i) s) (nine-most kind)) ∙ used .0)
-      (ap allFinite (first-tabulate (threeUsed kind) 3 (λ (i : ℕ). numberAt f (placeOf f (threeAt f) i) s) (three-most kind)) ∙ used .1)
+  work-rows k u = let used = used-numbers f (kindOf s) s u in kind-code f (kindOf s) (nineOf f s a) (threeOf f s a) k (used .0) (used .1)
 
   judged-rows : judgedOf f s .code ≡ pick (unknownKind f s a) 3 (pick (notZero f s a) 4 (pick (inputNotFinite f s a) 5 lastRows))
   unfolding judgedOf formOf

@@ -1,22 +1,18 @@
 -- A kind's code over finite numbers: 6 where a pivot is not above zero, else 7 where a number of the answer is not finite, else 0. Assumes nothing.
 use mathlib.Core.Path.{_≡_, refl, sym, ap, _∙_, subst}
-use mathlib.Core.Bool.{Bool, true, false, not, _&&_, _||_}
-use mathlib.Core.List.{List, [], _∷_, _++_}
+use mathlib.Core.Bool.{Bool, true, false, not, _&&_}
+use mathlib.Core.List.{List, _++_}
 use Prim.Native.Nat.{ℕ, suc, _≤_}
 use native.Mathlib.Omega.{arith}
 use borrow.Author.Tests.{leb-true}
 use lib.Dec.{eqb, leb}
-use lib.Ieee.{Float, Format, sub, mul, div, le}
+use lib.Ieee.{Float, Format}
 use Rattle.float.specs.Choice.{pick}
-use Rattle.float.specs.Constants.{zeroF}
-use Rattle.float.specs.Root.{rootOf}
 use Rattle.float.specs.Sign.{allFinite}
 use Rattle.float.proofs.Choice.{taken, left-out, by-eqb}
 use Rattle.float.proofs.Finite.{both-true, all-finite-append}
 use Rattle.matrix.specs.Answer.{zeros}
-use Rattle.matrix.specs.Places.{at}
-use Rattle.cholesky.specs.Pivot.{pivotOf}
-use Rattle.cholesky.specs.Factor.{FactorAnswer, withRoot, plain, second2Of, rowThreeOf, second3Of, steps2Of, steps3Of, judgedFactor, factor2Of, factor3Of}
+use Rattle.cholesky.specs.Factor.{FactorAnswer, plain, steps2Of, steps3Of, judgedFactor, factor2Of, factor3Of}
 use Rattle.cholesky.specs.Solve.{SolvedAnswer, judgedSolved, solution2Of, solution3Of, factorAndSolve2Of, factorAndSolve3Of}
 use Rattle.eigen.specs.Eigen2x2.{Eigen2Answer, solved2, judged2, eigen2Of}
 use Rattle.eigen.specs.Eigen3x3.{EigenAnswer, rankedOf, startOf, judgedEigen, endOf, eigenOf}
@@ -26,11 +22,12 @@ use Rattle.svd.specs.Svd3x3.{SvdAnswer, factorsOf, judgedSvd, svdOf}
 use Rattle.svd.specs.Svd3x3 as svd3
 use Rattle.kinds.specs.Slots.{knownKind, nineUsed, threeUsed}
 use Rattle.kinds.specs.Work.{KindAnswer, firstOf, fromFactor, workOf}
+use Rattle.promises.proofs.Stops.{six, steps2-stops, steps3-stops}
 use Rattle.promises.specs.Conditions.{pivots2Of, pivots3Of, pivotsOf, oneAtMostZero, eigen3Numbers, svd3Numbers, numbersOf}
 
 -- ---- 7 after the work: what a chain of finite tests answers
 
-abbrev seven : Bool → ℕ
+abbrev pub seven : Bool → ℕ
 seven t = pick (not t) 7 0
 
 module _ {A : Type 0} (code : A → ℕ) (good bad : A) (g : code good ≡ 0) (b : code bad ≡ 7) where
@@ -77,51 +74,6 @@ module _ (f : Format) where
       taken (λ (r : SvdAnswer). r .code ≡ seven (allFinite (svd3Numbers f s))) (allFinite a) _ _ h
       (three-tests (λ (r : SvdAnswer). r .code) _ _ refl refl (allFinite (s .matrix)) (allFinite (w .u)) (allFinite (w .v)) ∙ ap seven (three-lists (s .matrix) (w .u) (w .v)))
 
--- ---- 6: a factor's steps stop where a pivot is at most zero
-
-abbrev six : Bool → ℕ → ℕ
-six t n = pick t 6 n
-
-either-six : (s t : Bool) → six s (six t 0) ≡ six (s || t) 0
-either-six true t = refl
-either-six false t = refl
-
-module _ (f : Format) where
-  with-root : (t : Float) (k : ℕ) (early : List Float) (go : Float → FactorAnswer) → withRoot (pivotOf f t k) early go .code ≡ six (le t (zeroF f)) (go (rootOf f t) .code)
-  unfolding pivotOf
-  with-root t k early go = by (le t (zeroF f))
-    where
-      by : (b : Bool) → withRoot (pick b (record { code = 6; pivot = k; root = zeroF f }) (record { code = 0; pivot = 0; root = rootOf f t })) early go .code ≡ six b (go (rootOf f t) .code)
-      by true = refl
-      by false = refl
-
-  steps2-code : (l a : List Float) → steps2Of f l a .code ≡ six (oneAtMostZero f (pivots2Of f a)) 0
-  unfolding steps2Of oneAtMostZero
-  steps2-code l a =
-      let l11 = rootOf f (at a 0) in
-      let l21 = div f (at a 1) l11 in
-      let p2 = sub f (at a 2) (mul f l21 l21) in
-      with-root (at a 0) 1 l (λ (l11 : Float). second2Of f l a l11 (div f (at a 1) l11))
-      ∙ ap (six (le (at a 0) (zeroF f))) (with-root p2 2 (l11 ∷ l21 ∷ at l 2 ∷ []) (λ (l22 : Float). plain 0 (l11 ∷ l21 ∷ l22 ∷ [])) ∙ either-six (le p2 (zeroF f)) false)
-      ∙ either-six (le (at a 0) (zeroF f)) (le p2 (zeroF f) || false)
-
-  steps3-code : (l a : List Float) → steps3Of f l a .code ≡ six (oneAtMostZero f (pivots3Of f a)) 0
-  unfolding steps3Of oneAtMostZero
-  steps3-code l a =
-      let l11 = rootOf f (at a 0) in
-      let l21 = div f (at a 1) l11 in
-      let p2 = sub f (at a 2) (mul f l21 l21) in
-      let l22 = rootOf f p2 in
-      let l31 = div f (at a 3) l11 in
-      let l32 = div f (sub f (at a 4) (mul f l21 l31)) l22 in
-      let p3 = sub f (sub f (at a 5) (mul f l31 l31)) (mul f l32 l32) in
-      with-root (at a 0) 1 l (λ (l11 : Float). second3Of f l a l11 (div f (at a 1) l11))
-      ∙ ap (six (le (at a 0) (zeroF f)))
-      (with-root p2 2 (l11 ∷ l21 ∷ at l 2 ∷ at l 3 ∷ at l 4 ∷ at l 5 ∷ []) (λ (l22 : Float). rowThreeOf f l a l11 l21 l22 (div f (at a 3) l11))
-      ∙ ap (six (le p2 (zeroF f))) (with-root p3 3 (l11 ∷ l21 ∷ l22 ∷ l31 ∷ l32 ∷ at l 5 ∷ []) (λ (l33 : Float). plain 0 (l11 ∷ l21 ∷ l22 ∷ l31 ∷ l32 ∷ l33 ∷ [])) ∙ either-six (le p3 (zeroF f)) false)
-      ∙ either-six (le p2 (zeroF f)) (le p3 (zeroF f) || false))
-      ∙ either-six (le (at a 0) (zeroF f)) (le p2 (zeroF f) || (le p3 (zeroF f) || false))
-
 -- ---- the factor and the solution are judged after that
 
 module _ (f : Format) where
@@ -140,7 +92,7 @@ module _ (f : Format) where
       (two-tests (λ (q : SolvedAnswer). q .code) _ _ refl refl (allFinite (r .factor)) (allFinite x) ∙ ap seven (sym (all-finite-append (r .factor) x)))
 
   -- a record of a factor has the factor's code
-  from-factor-code : (s : ℕ) (r : FactorAnswer) → fromFactor f s r .code ≡ r .code
+  pub from-factor-code : (s : ℕ) (r : FactorAnswer) → fromFactor f s r .code ≡ r .code
   unfolding fromFactor
   from-factor-code s r = by-eqb (λ (w : KindAnswer). w .code ≡ r .code) (r .code) 0 _ _ (λ e. sym e) (λ _. refl)
 
@@ -149,14 +101,14 @@ module _ (f : Format) where
   factor2-code a h =
       from-factor-code 3 (factor2Of f (zeros f 3) a)
       ∙ taken (λ (r : FactorAnswer). r .code ≡ six (oneAtMostZero f (pivots2Of f a)) (seven (allFinite (steps2Of f (zeros f 3) a .factor)))) (allFinite a) _ _ h
-      (factor-code (zeros f 3) (steps2Of f (zeros f 3) a) (oneAtMostZero f (pivots2Of f a)) (steps2-code f (zeros f 3) a))
+      (factor-code (zeros f 3) (steps2Of f (zeros f 3) a) (oneAtMostZero f (pivots2Of f a)) (steps2-stops f (zeros f 3) a .0))
 
   factor3-code : (a : List Float) → allFinite a ≡ true → fromFactor f 6 (factor3Of f (zeros f 6) a) .code ≡ six (oneAtMostZero f (pivots3Of f a)) (seven (allFinite (steps3Of f (zeros f 6) a .factor)))
   unfolding factor3Of
   factor3-code a h =
       from-factor-code 6 (factor3Of f (zeros f 6) a)
       ∙ taken (λ (r : FactorAnswer). r .code ≡ six (oneAtMostZero f (pivots3Of f a)) (seven (allFinite (steps3Of f (zeros f 6) a .factor)))) (allFinite a) _ _ h
-      (factor-code (zeros f 6) (steps3Of f (zeros f 6) a) (oneAtMostZero f (pivots3Of f a)) (steps3-code f (zeros f 6) a))
+      (factor-code (zeros f 6) (steps3Of f (zeros f 6) a) (oneAtMostZero f (pivots3Of f a)) (steps3-stops f (zeros f 6) a .0))
 
   solved2-code : (a b : List Float) → allFinite a ≡ true → allFinite b ≡ true
       → factorAndSolve2Of f a b .code ≡ six (oneAtMostZero f (pivots2Of f a)) (seven (allFinite (steps2Of f (zeros f 3) a .factor ++ solution2Of f (steps2Of f (zeros f 3) a .factor) b)))
@@ -164,7 +116,7 @@ module _ (f : Format) where
   solved2-code a b h k =
       let r = steps2Of f (zeros f 3) a in
       let P : SolvedAnswer → Type 0 = λ (q : SolvedAnswer). q .code ≡ six (oneAtMostZero f (pivots2Of f a)) (seven (allFinite (r .factor ++ solution2Of f (r .factor) b))) in
-      taken P (allFinite a) _ _ h (taken P (allFinite b) _ _ k (solved-code 3 2 r (solution2Of f (r .factor) b) (oneAtMostZero f (pivots2Of f a)) (steps2-code f (zeros f 3) a)))
+      taken P (allFinite a) _ _ h (taken P (allFinite b) _ _ k (solved-code 3 2 r (solution2Of f (r .factor) b) (oneAtMostZero f (pivots2Of f a)) (steps2-stops f (zeros f 3) a .0)))
 
   solved3-code : (a b : List Float) → allFinite a ≡ true → allFinite b ≡ true
       → factorAndSolve3Of f a b .code ≡ six (oneAtMostZero f (pivots3Of f a)) (seven (allFinite (steps3Of f (zeros f 6) a .factor ++ solution3Of f (steps3Of f (zeros f 6) a .factor) b)))
@@ -172,14 +124,14 @@ module _ (f : Format) where
   solved3-code a b h k =
       let r = steps3Of f (zeros f 6) a in
       let P : SolvedAnswer → Type 0 = λ (q : SolvedAnswer). q .code ≡ six (oneAtMostZero f (pivots3Of f a)) (seven (allFinite (r .factor ++ solution3Of f (r .factor) b))) in
-      taken P (allFinite a) _ _ h (taken P (allFinite b) _ _ k (solved-code 6 3 r (solution3Of f (r .factor) b) (oneAtMostZero f (pivots3Of f a)) (steps3-code f (zeros f 6) a)))
+      taken P (allFinite a) _ _ h (taken P (allFinite b) _ _ k (solved-code 6 3 r (solution3Of f (r .factor) b) (oneAtMostZero f (pivots3Of f a)) (steps3-stops f (zeros f 6) a .0)))
 
 -- ---- each kind
 
 known-between : (kind : ℕ) → knownKind kind ≡ true → (1 ≤ kind) × (kind ≤ 8)
 known-between kind h = let b = both-true (leb 1 kind) (leb kind 8) h in (leb-true 1 kind (b .0), leb-true kind 8 (b .1))
 
-each-known : (P : ℕ → Type 0) → P 1 → P 2 → P 3 → P 4 → P 5 → P 6 → P 7 → P 8 → (kind : ℕ) → knownKind kind ≡ true → P kind
+pub each-known : (P : ℕ → Type 0) → P 1 → P 2 → P 3 → P 4 → P 5 → P 6 → P 7 → P 8 → (kind : ℕ) → knownKind kind ≡ true → P kind
 each-known P p1 p2 p3 p4 p5 p6 p7 p8 kind h =
     let b = known-between kind h in
     next 1 p1 (b .0) (λ l. next 2 p2 l (λ l. next 3 p3 l (λ l. next 4 p4 l (λ l. next 5 p5 l (λ l. next 6 p6 l (λ l. next 7 p7 l (λ l. next 8 p8 l (λ l. absurd (omega arith)))))))))

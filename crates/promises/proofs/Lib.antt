@@ -1,7 +1,9 @@
 pub mod Examples
+pub mod Stops
 pub mod Kernels
 pub mod Rows
 pub mod Codes
 pub mod Signs
 pub mod Wiring
 pub mod Vouched
+pub mod Pivots

@@ -2,7 +2,7 @@
 use mathlib.Core.Path.{_≡_}
 use mathlib.Core.Bool.{Bool, true, false, not, _&&_, _||_}
 use mathlib.Core.List.{List, [], _∷_, _++_}
-use Prim.Native.Nat.{ℕ}
+use Prim.Native.Nat.{ℕ, suc}
 use lib.Dec.{eqb}
 use lib.ListN.{length}
 use lib.Ieee.{Float, Format, sub, mul, div, le}
@@ -22,7 +22,7 @@ use Rattle.kinds.specs.Slots.{knownKind}
 use Rattle.kinds.specs.Work.{firstOf}
 use Rattle.record.specs.Layout.{nineAt, threeAt, requestSize, answerSize}
 use Rattle.record.specs.Bytes.{numbersFrom}
-use Rattle.record.specs.Request.{kindOf, reservedZero, unusedZero, usedFinite}
+use Rattle.record.specs.Request.{kindOf, reservedZero, unusedZero, usedFinite, judgedOf}
 use Rattle.record.specs.Answer.{stepOf}
 
 -- ---- 6: the pivots by the formula. One counts only if those before it are above zero; if one of them is not, that is a 6 already.
@@ -52,6 +52,11 @@ pivotsOf f kind nine =
 unfoldable pub oneAtMostZero : Format → List Float → Bool
 oneAtMostZero f [] = false
 oneAtMostZero f (p ∷ ps) = le p (zeroF f) || oneAtMostZero f ps
+
+-- the number of the first that is at most zero, counted from k; 0 where none is
+unfoldable pub refusedPivot : Format → ℕ → List Float → ℕ
+refusedPivot f k [] = 0
+refusedPivot f k (p ∷ ps) = pick (le p (zeroF f)) k (refusedPivot f (suc k) ps)
 
 -- ---- 7: the numbers of the answer, and for the 3x3 kinds 2 and 4 the worked matrix, among whose numbers the values are, or their magnitudes
 
@@ -156,3 +161,7 @@ module _ (f : Format) (request answer : List ℕ) where
     pub six : Exactly (Gives 6) (Fails c2 × (Fails c1 × (Fails c3 × (Fails c4 × (Fails c5 × Holds c6)))))
     pub seven : Exactly (Gives 7) (Fails c2 × (Fails c1 × (Fails c3 × (Fails c4 × (Fails c5 × (Fails c6 × Holds c7))))))
     pub zero : Exactly (Gives 0) (Fails c2 × (Fails c1 × (Fails c3 × (Fails c4 × (Fails c5 × (Fails c6 × Fails c7))))))
+
+-- with 6 the answer has the number of the first pivot that is at most zero; `recordOf` puts it in byte 6
+abbrev pub PivotGiven : Format → List ℕ → Type 0
+PivotGiven f request = judgedOf f request .code ≡ 6 → judgedOf f request .count ≡ refusedPivot f 1 (pivotsOf f (kindOf request) (nineOf f request []))

@@ -11,19 +11,15 @@ use lib.Dec.{eqb}
 use lib.ListN.{length, getD, take, drop, replicate, length-append, length-take, length-drop, replicate-append-replicate}
 use lib.Seq.{length-take-le, getD-append-add, drop-append-add, drop-drop}
 use lib.Ieee.{Format}
-use Rattle.float.specs.Sign.{allFinite}
 use Rattle.float.proofs.Choice.{chosen, by-eqb}
-use Rattle.float.proofs.Finite.{both-true}
-use Rattle.matrix.proofs.Tables.{first-tabulate}
-use Rattle.kinds.specs.Slots.{nineUsed, threeUsed}
 use Rattle.kinds.specs.Work.{KindAnswer, refusedKind, workOf}
-use Rattle.kinds.proofs.Most.{nine-most, three-most}
 use Rattle.kinds.proofs.Works.{Sized, work-sized, Clear, work-clear, work-five}
-use Rattle.record.specs.Layout.{numberBytes, eventBytes, numbersAt, nineAt, threeAt, placeOf, requestSize, codeAt, answerSize}
-use Rattle.record.specs.Bytes.{numberAt, numbersFrom}
+use Rattle.record.specs.Layout.{numberBytes, eventBytes, numbersAt, nineAt, threeAt, requestSize, codeAt, answerSize}
+use Rattle.record.specs.Bytes.{numbersFrom}
 use Rattle.record.specs.Request.{kindOf, formOf, usedFinite, judgedOf}
 use Rattle.record.specs.Answer.{recordOf, Step, stepOf}
 use Rattle.record.specs.Stream.{requestOf, answersOf}
+use Rattle.record.proofs.Used.{used-numbers}
 use Rattle.record.proofs.Numbers.{numbers-length, zeros-bytes}
 
 -- ---- a request of the right size
@@ -105,11 +101,8 @@ refused-clear f s a h k = sym (drop-drop 1 7 (stepOf f s a .answer)) ∙ ap (dro
 
 pub five-is-the-test : (f : Format) (s : List ℕ) → usedFinite f (kindOf s) s ≡ true → workOf f (kindOf s) (numbersFrom f 9 nineAt s) (numbersFrom f 3 (threeAt f) s) .code ≡ 5 → ⊥
 five-is-the-test f s h =
-    let kind = kindOf s in
-    let used = both-true (allFinite (numbersFrom f (nineUsed kind) nineAt s)) (allFinite (numbersFrom f (threeUsed kind) (threeAt f) s)) h in
-    work-five f kind (numbersFrom f 9 nineAt s) (numbersFrom f 3 (threeAt f) s)
-    (ap allFinite (first-tabulate (nineUsed kind) 9 (λ (i : ℕ). numberAt f (placeOf f nineAt i) s) (nine-most kind)) ∙ used .0)
-    (ap allFinite (first-tabulate (threeUsed kind) 3 (λ (i : ℕ). numberAt f (placeOf f (threeAt f) i) s) (three-most kind)) ∙ used .1)
+    let used = used-numbers f (kindOf s) s h in
+    work-five f (kindOf s) (numbersFrom f 9 nineAt s) (numbersFrom f 3 (threeAt f) s) (used .0) (used .1)
 
 -- ---- many answers have the size of so many
 
