@@ -1,7 +1,6 @@
 // Items of words, and the answers to a run of them.
 use crate::operations::answer;
-use crate::words::put_word;
-use crate::words::word_at;
+use crate::words::wide;
 ghost use Prim.Native.Nat.{_+_, _*_, _≤_};
 ghost use lib.ListN.{length};
 ghost use Rattle.probe.specs.Limits.{Within};
@@ -13,27 +12,28 @@ pub(crate) struct Job {
     pub(crate) m: usize,
 }
 
-// The n words from `at` on; the others are 0.
-fn item_at(s: &[u8], at: usize, n: usize) -> [u64; 40]
+// The n words from `at` on, each from its highest byte down; the others are 0.
+pub(crate) fn item_at(s: &[u8], at: usize, n: usize) -> [u64; 40]
     requires { ⌜ (at + 8 * n ≤ length (now s)) × (n ≤ 40) ⌝ }
 {
     let mut words = [0; 40];
-    let mut j = 0;
-    while j < n {
-        words[j] = word_at(s, at + 8 * j);
-        j += 1;
+    let mut k = 8 * n;
+    while k > 0 {
+        k -= 1;
+        words[k / 8] = words[k / 8] << 8 | wide(s[at + k]);
     }
     words
 }
 
-// Writes the first m words from `at` on.
+// Writes the first m words from `at` on, each from its lowest byte up.
 fn put_item(out: &mut [u8], at: usize, words: [u64; 64], m: usize)
     requires { ⌜ (at + 8 * m ≤ length (now out)) × (m ≤ 64) ⌝ }
 {
-    let mut j = 0;
-    while j < m {
-        put_word(out, at + 8 * j, words[j]);
-        j += 1;
+    let end = 8 * m;
+    let mut k = 0;
+    while k < end {
+        out[at + k] = ((words[k / 8] >> (8 * (k % 8))) % 256) as u8;
+        k += 1;
     }
 }
 
@@ -53,16 +53,5 @@ pub(crate) fn answer_items(s: &[u8], out: &mut [u8], job: Job, count: usize)
         at += 8 * n;
         to += 8 * m;
         left -= 1;
-    }
-}
-
-// Moves the n bytes from `from` on to the front.
-pub(crate) fn keep_tail(buf: &mut [u8], from: usize, n: usize)
-    requires { ⌜ from + n ≤ length (now buf) ⌝ }
-{
-    let mut i = 0;
-    while i < n {
-        buf[i] = buf[from + i];
-        i += 1;
     }
 }

@@ -1,6 +1,6 @@
 // Numbers and matrices among the words of an item, and put into an answer. All go by value: an answer is made of calls in calls.
-use crate::words::one;
-use crate::words::wide;
+use crate::words::coded;
+use crate::words::word;
 use float::bits::of_bits;
 use float::bits::to_bits;
 use matrix::square::Mat2;
@@ -38,6 +38,13 @@ pub(crate) fn number(words: [u64; 40], at: usize) -> f64
     of_bits(words[at])
 }
 
+// A row or a column.
+pub(crate) fn place(words: [u64; 40], at: usize) -> usize
+    requires { ⌜ at < 40 ⌝ }
+{
+    words[at] as usize
+}
+
 // Eight places, of which a part is lent.
 pub(crate) fn eight(words: [u64; 40], at: usize) -> [f64; 8]
     requires { ⌜ at + 8 ≤ 40 ⌝ }
@@ -48,10 +55,12 @@ pub(crate) fn eight(words: [u64; 40], at: usize) -> [f64; 8]
 }
 
 // The length of the part that is lent.
-pub(crate) fn length(word: u64) -> usize
+pub(crate) fn length(words: [u64; 40], at: usize) -> usize
+    requires { ⌜ at < 40 ⌝ }
     ensures { λ r. ⌜ r ≤ 8 ⌝ }
 {
-    if word < 8 { word as usize } else { 8 }
+    let n = word(words, at);
+    if n < 8 { n as usize } else { 8 }
 }
 
 pub(crate) fn sym2(words: [u64; 40], at: usize) -> Sym2
@@ -84,19 +93,6 @@ pub(crate) fn mat3(words: [u64; 40], at: usize) -> Mat3
     let mut x = [0.0; 9];
     read(&words, at, &mut x);
     Mat3 { data: x }
-}
-
-// An answer's first words.
-pub(crate) fn begin2(a: u64, b: u64) -> [u64; 64] {
-    let mut out = one(a);
-    out[1] = b;
-    out
-}
-
-pub(crate) fn begin3(a: u64, b: u64, c: u64) -> [u64; 64] {
-    let mut out = begin2(a, b);
-    out[2] = c;
-    out
 }
 
 pub(crate) fn put2(out: [u64; 64], at: usize, x: [f64; 2]) -> [u64; 64]
@@ -167,9 +163,14 @@ pub(crate) fn put_mat3(out: [u64; 64], at: usize, a: Mat3) -> [u64; 64]
     put9(out, at, x)
 }
 
+// An answer that is a matrix.
+pub(crate) fn of_mat3(a: Mat3) -> [u64; 64] {
+    put_mat3([0; 64], 0, a)
+}
+
 // The answer of a call on lent slices: the code, and the output's places.
 pub(crate) fn lent(code: u8, y: [f64; 8]) -> [u64; 64] {
-    let mut out = one(wide(code));
+    let mut out = coded(code);
     put(&mut out, 1, &y);
     out
 }

@@ -1,8 +1,7 @@
-// Eigenvalues, eigenvectors and the steps to them: one function for each operation.
-use crate::numbers::begin2;
-use crate::numbers::begin3;
+// Eigenvalues, eigenvectors and the steps to them.
 use crate::numbers::mat3;
 use crate::numbers::number;
+use crate::numbers::of_mat3;
 use crate::numbers::put_mat2;
 use crate::numbers::put_mat3;
 use crate::numbers::put_sym3;
@@ -10,43 +9,48 @@ use crate::numbers::put2;
 use crate::numbers::put3;
 use crate::numbers::sym2;
 use crate::numbers::sym3;
-use crate::words::of_bool;
-use crate::words::wide;
+use crate::words::begin;
+use crate::words::counted;
+use crate::words::marked;
+use crate::words::word;
+use eigen::order;
+use eigen::pairs;
 use eigen::pairs::OffDiag;
 use eigen::pairs::Pair;
 use eigen::rotation::Rotation;
+use eigen::rotation::compute_jacobi_rotation;
 use float::bits::to_bits;
 
 // Code, count, settled, values, vectors, worked matrix.
-pub(crate) fn eigen_jacobi(words: [u64; 40]) -> [u64; 64] {
+fn eigen_jacobi(words: [u64; 40]) -> [u64; 64] {
     let r = eigen::eigen3x3::eigen_jacobi(sym3(words, 0));
     let values = r.values;
     let vectors = r.vectors;
     let worked = r.worked;
-    let out = begin3(wide(r.code), wide(r.count), of_bool(r.settled));
+    let out = counted(r.code, r.count, r.settled);
     put_sym3(put_mat3(put3(out, 3, values), 6, vectors), 15, worked)
 }
 
-pub(crate) fn eigvals_jacobi(words: [u64; 40]) -> [u64; 64] {
+fn eigvals_jacobi(words: [u64; 40]) -> [u64; 64] {
     let r = eigen::eigen3x3::eigvals_jacobi(sym3(words, 0));
     let values = r.values;
     let worked = r.worked;
-    let out = begin3(wide(r.code), wide(r.count), of_bool(r.settled));
+    let out = counted(r.code, r.count, r.settled);
     put_sym3(put3(out, 3, values), 6, worked)
 }
 
-pub(crate) fn eigen2(words: [u64; 40]) -> [u64; 64] {
+fn eigen2(words: [u64; 40]) -> [u64; 64] {
     let r = eigen::eigen2x2::eigen(sym2(words, 0));
     let values = r.values;
     let vectors = r.vectors;
-    let out = begin2(wide(r.code), of_bool(r.settled));
+    let out = marked(r.code, r.settled);
     put_mat2(put2(out, 2, values), 4, vectors)
 }
 
-pub(crate) fn eigvals2(words: [u64; 40]) -> [u64; 64] {
+fn eigvals2(words: [u64; 40]) -> [u64; 64] {
     let r = eigen::eigen2x2::eigvals(sym2(words, 0));
     let values = r.values;
-    put2(begin2(wide(r.code), of_bool(r.settled)), 2, values)
+    put2(marked(r.code, r.settled), 2, values)
 }
 
 // The pairs by their rows and columns: 12, 13, 23.
@@ -59,7 +63,7 @@ fn of_pair(p: Pair) -> u64 {
 }
 
 pub(crate) fn pair(words: [u64; 40]) -> Pair {
-    match words[0] {
+    match word(words, 0) {
         12 => Pair::P12,
         13 => Pair::P13,
         _ => Pair::P23,
@@ -69,12 +73,12 @@ pub(crate) fn pair(words: [u64; 40]) -> Pair {
 // A pair and its size.
 pub(crate) fn of_off_diag(r: OffDiag) -> [u64; 64] {
     let p = r.pair;
-    begin2(of_pair(p), to_bits(r.size))
+    begin(of_pair(p), to_bits(r.size), 0)
 }
 
 // Cosine, sine and tangent.
 fn of_rotation(r: Rotation) -> [u64; 64] {
-    begin3(to_bits(r.c), to_bits(r.s), to_bits(r.t))
+    put3([0; 64], 0, [r.c, r.s, r.t])
 }
 
 // Behind the pair.
@@ -86,57 +90,8 @@ fn rotation(words: [u64; 40]) -> Rotation {
     }
 }
 
-pub(crate) fn compute_jacobi_rotation(words: [u64; 40]) -> [u64; 64] {
-    of_rotation(eigen::rotation::compute_jacobi_rotation(
-        number(words, 0),
-        number(words, 1),
-        number(words, 2),
-    ))
-}
-
-pub(crate) fn find_largest_off_diag(words: [u64; 40]) -> [u64; 64] {
-    of_off_diag(eigen::pairs::find_largest_off_diag(sym3(words, 0)))
-}
-
-pub(crate) fn apply_rotation(words: [u64; 40]) -> [u64; 64] {
-    put_sym3(
-        [0; 64],
-        0,
-        eigen::pairs::apply_rotation(sym3(words, 4), pair(words), rotation(words)),
-    )
-}
-
-pub(crate) fn update_eigenvectors(words: [u64; 40]) -> [u64; 64] {
-    put_mat3(
-        [0; 64],
-        0,
-        eigen::pairs::update_eigenvectors(mat3(words, 4), pair(words), rotation(words)),
-    )
-}
-
-pub(crate) fn turn_columns(words: [u64; 40]) -> [u64; 64] {
-    put_mat3(
-        [0; 64],
-        0,
-        eigen::pairs::turn_columns(
-            mat3(words, 4),
-            pair(words),
-            number(words, 1),
-            number(words, 2),
-        ),
-    )
-}
-
-pub(crate) fn sort3(words: [u64; 40]) -> [u64; 64] {
-    put3(
-        [0; 64],
-        0,
-        eigen::order::sort3(number(words, 0), number(words, 1), number(words, 2)),
-    )
-}
-
-pub(crate) fn sort3_with_columns(words: [u64; 40]) -> [u64; 64] {
-    let r = eigen::order::sort3_with_columns(
+fn sort3_with_columns(words: [u64; 40]) -> [u64; 64] {
+    let r = order::sort3_with_columns(
         number(words, 0),
         number(words, 1),
         number(words, 2),
@@ -145,4 +100,37 @@ pub(crate) fn sort3_with_columns(words: [u64; 40]) -> [u64; 64] {
     let values = r.values;
     let columns = r.columns;
     put_mat3(put3([0; 64], 0, values), 3, columns)
+}
+
+pub(crate) fn eigen(op: u64, words: [u64; 40]) -> [u64; 64] {
+    match op {
+        48 => eigen_jacobi(words),
+        49 => eigvals_jacobi(words),
+        50 => eigen2(words),
+        51 => eigvals2(words),
+        52 => of_rotation(compute_jacobi_rotation(
+            number(words, 0),
+            number(words, 1),
+            number(words, 2),
+        )),
+        53 => of_off_diag(pairs::find_largest_off_diag(sym3(words, 0))),
+        54 => put_sym3(
+            [0; 64],
+            0,
+            pairs::apply_rotation(sym3(words, 4), pair(words), rotation(words)),
+        ),
+        55 => of_mat3(pairs::update_eigenvectors(mat3(words, 4), pair(words), rotation(words))),
+        56 => of_mat3(pairs::turn_columns(
+            mat3(words, 4),
+            pair(words),
+            number(words, 1),
+            number(words, 2),
+        )),
+        57 => put3(
+            [0; 64],
+            0,
+            order::sort3(number(words, 0), number(words, 1), number(words, 2)),
+        ),
+        _ => sort3_with_columns(words),
+    }
 }

@@ -1,42 +1,42 @@
-// The float helpers, one function for each operation.
+// The float helpers: all work on the item's first word.
+use crate::words::begin;
 use crate::words::of_bool;
 use crate::words::of_signed;
-use crate::words::one;
+use crate::words::word;
 use float::bits::of_bits;
 use float::bits::to_bits;
+use float::parts::Parts;
+use float::parts::parts_of;
+use float::root::root;
+use float::root::root_bits;
+use float::sign::is_finite;
+use float::sign::magnitude;
+use float::sign::sign_bit;
+use float::sign::signum;
+use float::sign::signum_bits;
 
-pub(crate) fn root(words: [u64; 40]) -> [u64; 64] {
-    one(to_bits(float::root::root(of_bits(words[0]))))
+// Those that have one word for an answer.
+fn of_pattern(op: u64, pattern: u64) -> u64 {
+    let x = of_bits(pattern);
+    match op {
+        1 => to_bits(root(x)),
+        2 => to_bits(magnitude(x)),
+        3 => of_bool(sign_bit(x)),
+        4 => to_bits(signum(x)),
+        5 => of_bool(is_finite(x)),
+        6 => root_bits(pattern),
+        _ => signum_bits(pattern),
+    }
 }
 
-pub(crate) fn magnitude(words: [u64; 40]) -> [u64; 64] {
-    one(to_bits(float::sign::magnitude(of_bits(words[0]))))
+fn of_parts(p: Parts) -> [u64; 64] {
+    begin(p.m, of_signed(p.e), 0)
 }
 
-pub(crate) fn sign_bit(words: [u64; 40]) -> [u64; 64] {
-    one(of_bool(float::sign::sign_bit(of_bits(words[0]))))
-}
-
-pub(crate) fn signum(words: [u64; 40]) -> [u64; 64] {
-    one(to_bits(float::sign::signum(of_bits(words[0]))))
-}
-
-pub(crate) fn is_finite(words: [u64; 40]) -> [u64; 64] {
-    one(of_bool(float::sign::is_finite(of_bits(words[0]))))
-}
-
-pub(crate) fn root_bits(words: [u64; 40]) -> [u64; 64] {
-    one(float::root::root_bits(words[0]))
-}
-
-pub(crate) fn signum_bits(words: [u64; 40]) -> [u64; 64] {
-    one(float::sign::signum_bits(words[0]))
-}
-
-pub(crate) fn parts_of(words: [u64; 40]) -> [u64; 64] {
-    let p = float::parts::parts_of(words[0]);
-    let mut out = [0; 64];
-    out[0] = p.m;
-    out[1] = of_signed(p.e);
-    out
+pub(crate) fn float(op: u64, words: [u64; 40]) -> [u64; 64] {
+    let pattern = word(words, 0);
+    match op {
+        8 => of_parts(parts_of(pattern)),
+        _ => begin(of_pattern(op, pattern), 0, 0),
+    }
 }

@@ -1,81 +1,65 @@
-// Singular values and vectors, and the steps to them: one function for each operation.
-use crate::numbers::begin2;
-use crate::numbers::begin3;
+// Singular values and vectors, and the steps to them.
 use crate::numbers::mat2;
 use crate::numbers::mat3;
 use crate::numbers::number;
+use crate::numbers::of_mat3;
 use crate::numbers::put_mat2;
 use crate::numbers::put_mat3;
 use crate::numbers::put2;
 use crate::numbers::put3;
 use crate::of_eigen::of_off_diag;
 use crate::of_eigen::pair;
-use crate::words::of_bool;
-use crate::words::one;
-use crate::words::wide;
+use crate::words::begin;
+use crate::words::counted;
+use crate::words::marked;
 use float::bits::to_bits;
+use matrix::square::Mat3;
 use svd::order;
 use svd::pairs;
 use svd::polar;
 use svd::polar::TwoSided;
 
 // Code, count, settled, values, U, V, worked matrix.
-pub(crate) fn svd3(words: [u64; 40]) -> [u64; 64] {
+fn svd3(words: [u64; 40]) -> [u64; 64] {
     let r = svd::svd3x3::svd(mat3(words, 0));
     let values = r.values;
     let u = r.u;
     let v = r.v;
     let worked = r.worked;
-    let out = put3(
-        begin3(wide(r.code), wide(r.count), of_bool(r.settled)),
-        3,
-        values,
-    );
+    let out = put3(counted(r.code, r.count, r.settled), 3, values);
     put_mat3(put_mat3(put_mat3(out, 6, u), 15, v), 24, worked)
 }
 
-pub(crate) fn svd2(words: [u64; 40]) -> [u64; 64] {
+fn svd2(words: [u64; 40]) -> [u64; 64] {
     let r = svd::svd2x2::svd(mat2(words, 0));
     let values = r.values;
     let u = r.u;
     let v = r.v;
-    let out = put2(begin2(wide(r.code), of_bool(r.settled)), 2, values);
+    let out = put2(marked(r.code, r.settled), 2, values);
     put_mat2(put_mat2(out, 4, u), 8, v)
 }
 
-pub(crate) fn hypot_fast(words: [u64; 40]) -> [u64; 64] {
-    one(to_bits(polar::hypot_fast(number(words, 0), number(words, 1))))
-}
-
 // A 2x2 by columns; cosine, sine, and the symmetric matrix's three numbers.
-pub(crate) fn compute_polar_2x2(words: [u64; 40]) -> [u64; 64] {
+fn compute_polar_2x2(words: [u64; 40]) -> [u64; 64] {
     let r = polar::compute_polar_2x2(
         number(words, 0),
         number(words, 1),
         number(words, 2),
         number(words, 3),
     );
-    put3(begin2(to_bits(r.c), to_bits(r.s)), 2, [r.s11, r.s12, r.s22])
+    put3(put2([0; 64], 0, [r.c, r.s]), 2, [r.s11, r.s12, r.s22])
 }
 
 // A 2x2 by columns; left, right, diagonal, and the symmetric matrix's three numbers.
-pub(crate) fn compute_two_sided_rotation(words: [u64; 40]) -> [u64; 64] {
+fn compute_two_sided_rotation(words: [u64; 40]) -> [u64; 64] {
     let r = polar::compute_two_sided_rotation(
         number(words, 0),
         number(words, 1),
         number(words, 2),
         number(words, 3),
     );
-    let out = put3(
-        begin3(to_bits(r.cl), to_bits(r.sl), to_bits(r.cr)),
-        3,
-        [r.sr, r.d1, r.d2],
-    );
-    put3(out, 6, [r.s11, r.s12, r.s22])
-}
-
-pub(crate) fn find_largest_off_diag_nonsym(words: [u64; 40]) -> [u64; 64] {
-    of_off_diag(pairs::find_largest_off_diag_nonsym(mat3(words, 0)))
+    let data = [r.cl, r.sl, r.cr, r.sr, r.d1, r.d2, r.s11, r.s12, r.s22];
+    of_mat3(Mat3 { data })
 }
 
 // Behind the pair.
@@ -93,17 +77,8 @@ fn two_sided(words: [u64; 40]) -> TwoSided {
     }
 }
 
-// A pair, a two-sided rotation, the matrix, which comes out rotated.
-pub(crate) fn apply_two_sided_rotation(words: [u64; 40]) -> [u64; 64] {
-    put_mat3(
-        [0; 64],
-        0,
-        pairs::apply_two_sided_rotation(mat3(words, 10), pair(words), two_sided(words)),
-    )
-}
-
 // The diagonal, U, V; the values, U, V.
-pub(crate) fn fix_order_and_signs_3x3(words: [u64; 40]) -> [u64; 64] {
+fn fix_order_and_signs_3x3(words: [u64; 40]) -> [u64; 64] {
     let a = number(words, 0);
     let b = number(words, 1);
     let r = order::fix_order_and_signs_3x3(a, b, number(words, 2), mat3(words, 3), mat3(words, 12));
@@ -113,7 +88,7 @@ pub(crate) fn fix_order_and_signs_3x3(words: [u64; 40]) -> [u64; 64] {
     put_mat3(put_mat3(put3([0; 64], 0, values), 3, u), 12, v)
 }
 
-pub(crate) fn set_order_and_signs_2x2(words: [u64; 40]) -> [u64; 64] {
+fn set_order_and_signs_2x2(words: [u64; 40]) -> [u64; 64] {
     let r = order::set_order_and_signs_2x2(
         number(words, 0),
         number(words, 1),
@@ -124,4 +99,26 @@ pub(crate) fn set_order_and_signs_2x2(words: [u64; 40]) -> [u64; 64] {
     let u = r.u;
     let v = r.v;
     put_mat2(put_mat2(put2([0; 64], 0, values), 2, u), 6, v)
+}
+
+pub(crate) fn svd(op: u64, words: [u64; 40]) -> [u64; 64] {
+    match op {
+        64 => svd3(words),
+        65 => svd2(words),
+        66 => begin(
+            to_bits(polar::hypot_fast(number(words, 0), number(words, 1))),
+            0,
+            0,
+        ),
+        67 => compute_polar_2x2(words),
+        68 => compute_two_sided_rotation(words),
+        69 => of_off_diag(pairs::find_largest_off_diag_nonsym(mat3(words, 0))),
+        70 => of_mat3(pairs::apply_two_sided_rotation(
+            mat3(words, 10),
+            pair(words),
+            two_sided(words),
+        )),
+        71 => fix_order_and_signs_3x3(words),
+        _ => set_order_and_signs_2x2(words),
+    }
 }

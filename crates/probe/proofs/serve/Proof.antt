@@ -1,16 +1,15 @@
--- `probe::serve` is safe and ends: the buffers keep their lengths and less than an item is kept. The measure is the turns left. Assumes nothing.
+-- `probe::serve` is safe and ends: the buffers keep their lengths. The measure is the turns left. Assumes nothing.
 use borrow.Author.Needs.{needs}
 use mathlib.Core.Path.{_≡_}
-use Prim.Native.Nat.{_*_, _<_}
 use lib.ListN.{length}
 use Rattle.probe.proofs.serve.Statement.{statement}
 use Rattle.probe.proofs.serve.Tie as tie
 
 abbrev Inv-loop : tie.InvT-loop
-Inv-loop job buf₀ out₀ have₀ turns₀ buf out have turns = (length buf ≡ 65536) × (length out ≡ 65536) × (have < 8 * job .n)
+Inv-loop job buf₀ out₀ turns₀ buf out turns = (length buf ≡ 65536) × (length out ≡ 65536)
 
 abbrev μ-loop : tie.MeasureT-loop
-μ-loop job buf₀ out₀ have₀ turns₀ buf out have turns = turns
+μ-loop job buf₀ out₀ turns₀ buf out turns = turns
 
 large-buffer-requires : tie.Need-large-buffer-requires Inv-loop μ-loop
 large-buffer-requires c κs = search needs

@@ -1,37 +1,46 @@
--- `probe::items::item_at` is safe: word j lies below the item's end, and n is at most 40. Assumes nothing.
+-- `probe::items::item_at` is safe: byte k lies below the item's end, and its word below 40. Assumes nothing.
 use borrow.Author.Needs.{needs}
 use mathlib.Core.Path.{_≡_}
-use Prim.Native.Nat.{_-_, _≤_}
+use Prim.Native.Nat.{_*_, _≤_}
 use lib.ListN.{length}
 use Rattle.probe.proofs.items.item_at.Statement.{statement}
 use Rattle.probe.proofs.items.item_at.Tie as tie
 
 abbrev Inv-loop : tie.InvT-loop
-Inv-loop s at n words₀ j₀ words j = (j ≤ n) × (length words ≡ 40)
+Inv-loop s at n words₀ k₀ words k = (k ≤ 8 * n) × (length words ≡ 40)
 
 abbrev μ-loop : tie.MeasureT-loop
-μ-loop s at n words₀ j₀ words j = n - j
+μ-loop s at n words₀ k₀ words k = k
+
+mul-k : tie.Need-mul-k Inv-loop μ-loop
+mul-k c = search needs
 
 loop-holds : tie.Need-loop-holds Inv-loop μ-loop
 loop-holds c = search needs
 
-mul-word-at : tie.Need-mul-word-at Inv-loop μ-loop
-mul-word-at c = search needs
-
-add-word-at : tie.Need-add-word-at Inv-loop μ-loop
-add-word-at c = search needs
-
-word-at-requires : tie.Need-word-at-requires Inv-loop μ-loop
-word-at-requires c κs = search needs
+sub-k : tie.Need-sub-k Inv-loop μ-loop
+sub-k c = search needs
 
 mul-words : tie.Need-mul-words Inv-loop μ-loop
 mul-words c = search needs
 
+array-read-words : tie.Need-array-read-words Inv-loop μ-loop
+array-read-words c = search needs
+
+add-wide : tie.Need-add-wide Inv-loop μ-loop
+add-wide c = search needs
+
+shared-slice-read-wide : tie.Need-shared-slice-read-wide Inv-loop μ-loop
+shared-slice-read-wide c = search needs
+
+wide-requires : tie.Need-wide-requires Inv-loop μ-loop
+wide-requires c κs = search needs
+
+mul-words-2 : tie.Need-mul-words-2 Inv-loop μ-loop
+mul-words-2 c = search needs
+
 array-write-words : tie.Need-array-write-words Inv-loop μ-loop
 array-write-words c = search needs
-
-add-j : tie.Need-add-j Inv-loop μ-loop
-add-j c = search needs
 
 loop-less : tie.Need-loop-less Inv-loop μ-loop
 loop-less c = search needs
@@ -48,13 +57,16 @@ item-at-spec =
     (tie.spec
     Inv-loop
     μ-loop
+    mul-k
     loop-holds
-    mul-word-at
-    add-word-at
-    word-at-requires
+    sub-k
     mul-words
+    array-read-words
+    add-wide
+    shared-slice-read-wide
+    wide-requires
+    mul-words-2
     array-write-words
-    add-j
     loop-less
     loop-again
     returns)

@@ -1,4 +1,4 @@
--- `probe::items::put_item` is safe: word j lies below the answer's end, and m is at most 64. Assumes nothing.
+-- `probe::items::put_item` is safe: byte k lies below the answer's end, and its word below 64. Assumes nothing.
 use borrow.Author.Needs.{needs}
 use mathlib.Core.Path.{_≡_}
 use Prim.Native.Nat.{_-_, _≤_}
@@ -7,31 +7,40 @@ use Rattle.probe.proofs.items.put_item.Statement.{statement}
 use Rattle.probe.proofs.items.put_item.Tie as tie
 
 abbrev Inv-loop : tie.InvT-loop
-Inv-loop out₀ at m words j₀ out j = (j ≤ m) × (length out ≡ length out₀)
+Inv-loop out₀ at m words end k₀ out k = (k ≤ end) × (length out ≡ length out₀)
 
 abbrev μ-loop : tie.MeasureT-loop
-μ-loop out₀ at m words j₀ out j = m - j
+μ-loop out₀ at m words end k₀ out k = end - k
+
+mul-end : tie.Need-mul-end Inv-loop μ-loop
+mul-end c = search needs
 
 loop-holds : tie.Need-loop-holds Inv-loop μ-loop
 loop-holds c = search needs
 
-mul-put-word : tie.Need-mul-put-word Inv-loop μ-loop
-mul-put-word c = search needs
+mul-out : tie.Need-mul-out Inv-loop μ-loop
+mul-out c = search needs
 
-add-put-word : tie.Need-add-put-word Inv-loop μ-loop
-add-put-word c = search needs
+array-read-out : tie.Need-array-read-out Inv-loop μ-loop
+array-read-out c = search needs
 
-mul-put-word-2 : tie.Need-mul-put-word-2 Inv-loop μ-loop
-mul-put-word-2 c = search needs
+mul-out-2 : tie.Need-mul-out-2 Inv-loop μ-loop
+mul-out-2 c = search needs
 
-array-read-put-word : tie.Need-array-read-put-word Inv-loop μ-loop
-array-read-put-word c = search needs
+shr-out : tie.Need-shr-out Inv-loop μ-loop
+shr-out c = search needs
 
-put-word-requires : tie.Need-put-word-requires Inv-loop μ-loop
-put-word-requires c κs = search needs
+cast-out : tie.Need-cast-out Inv-loop μ-loop
+cast-out c = search needs
 
-add-j : tie.Need-add-j Inv-loop μ-loop
-add-j c = search needs
+add-out : tie.Need-add-out Inv-loop μ-loop
+add-out c = search needs
+
+slice-write-out : tie.Need-slice-write-out Inv-loop μ-loop
+slice-write-out c = search needs
+
+add-k : tie.Need-add-k Inv-loop μ-loop
+add-k c = search needs
 
 loop-less : tie.Need-loop-less Inv-loop μ-loop
 loop-less c = search needs
@@ -51,13 +60,16 @@ put-item-spec =
     (tie.spec
     Inv-loop
     μ-loop
+    mul-end
     loop-holds
-    mul-put-word
-    add-put-word
-    mul-put-word-2
-    array-read-put-word
-    put-word-requires
-    add-j
+    mul-out
+    array-read-out
+    mul-out-2
+    shr-out
+    cast-out
+    add-out
+    slice-write-out
+    add-k
     loop-less
     loop-again
     same-length

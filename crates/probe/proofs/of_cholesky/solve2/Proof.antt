@@ -8,14 +8,8 @@ use Rattle.probe.proofs.of_cholesky.solve2.Tie as tie
 sym2-requires : tie.Need-sym2-requires
 sym2-requires c κs = search needs
 
-array-read-length : tie.Need-array-read-length
-array-read-length c = search needs
-
 length-requires : tie.Need-length-requires
 length-requires c κs = search needs
-
-array-read-length-2 : tie.Need-array-read-length-2
-array-read-length-2 c = search needs
 
 length-requires-2 : tie.Need-length-requires-2
 length-requires-2 c κs = search needs
@@ -53,9 +47,7 @@ solve2-spec =
     tie.close
     (tie.spec
     sym2-requires
-    array-read-length
     length-requires
-    array-read-length-2
     length-requires-2
     eight-requires
     eight-requires-2
