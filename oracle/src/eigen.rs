@@ -661,7 +661,7 @@ fn largest(input: &[u64], out: &mut [u64], hits: &mut Hits) {
 // a pair; cosine, sine, tangent; the matrix, which comes out rotated
 
 /// The pairs' places in a packed matrix.
-fn place_of(p: usize, q: usize) -> usize {
+pub fn place_of(p: usize, q: usize) -> usize {
     p + q * (q + 1) / 2
 }
 

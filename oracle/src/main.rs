@@ -6,6 +6,7 @@ mod codes;
 mod driver;
 mod eigen;
 mod float;
+mod in_place;
 mod kinds;
 mod lent;
 mod listed;
@@ -67,6 +68,7 @@ fn usage() {
     eprintln!("       oracle answers < REQUESTS > ANSWERS");
     eprintln!("       oracle branches < REQUESTS");
     eprintln!("       oracle table REQUESTS ANSWERS");
+    eprintln!("       oracle rotations < ITEMS > LINES");
     eprintln!("subjects: {}", names.join(" "));
 }
 
@@ -84,6 +86,9 @@ fn with_records(words: &[&str]) -> Option<io::Result<bool>> {
         ["golden"] => write_requests(requests::GOLDEN.0, requests::GOLDEN.1).map(|()| true),
         ["branches"] => reached::show(&mut io::stdin().lock()),
         ["table", requests, answers] => table::show(requests, answers),
+        ["rotations"] => {
+            in_place::answer(&mut io::stdin().lock(), &mut io::stdout().lock()).map(|()| true)
+        }
         _ => return None,
     })
 }
