@@ -1,4 +1,4 @@
-// Requests of 104 bytes on standard input, to its end, to answers of 176 on standard output, one for each in order. A last part of a
+// Requests on standard input, to its end, to answers on standard output, one for each in order. A last part of a
 // request gets the answer of code 1.
 //
 // It answers after each read, so that a slow pipe is served; what a read leaves of a request waits for the next one. A read or a
@@ -16,10 +16,12 @@ use record::stream::answer_all;
 ghost use Prim.Native.Nat.{_+_, _/_, _≤_, _<_};
 ghost use mathlib.Core.Path.{_≡_};
 ghost use lib.ListN.{length, take, drop};
-ghost use Rattle.answers.specs.Buffers.{Large};
+ghost use Rattle.float.specs.Width.{F};
+ghost use Rattle.record.specs.Layout.{requestSize};
+ghost use Rattle.answers.specs.Buffers.{Large, batch, room};
 
-// The bytes of as many requests as a large buffer holds answers to: 372.
-const ROOM: usize = 38688;
+// The bytes of as many requests as a large buffer holds answers to.
+const ROOM: usize = 65536 / ANSWER_SIZE * REQUEST_SIZE;
 
 // A proved loop has to end, and nothing says that the input does: the turns count down from a number that no run uses up.
 const TURNS: u64 = 9007199254740992;
@@ -55,16 +57,16 @@ fn keep_rest(buf: &mut [u8], from: usize, n: usize)
 
 // Answers the whole requests among the first `total` bytes, and says how many.
 fn answer_whole(buf: &[u8], out: &mut [u8], total: usize) -> usize
-    requires { ⌜ Large (now buf) × Large (now out) × (total ≤ 38688) ⌝ }
-    ensures { λ n. ⌜ n ≡ total / 104 ⌝ }
+    requires { ⌜ Large (now buf) × Large (now out) × (total ≤ room F) ⌝ }
+    ensures { λ n. ⌜ n ≡ total / requestSize F ⌝ }
 {
     answer_all(&buf[..total], out)
 }
 
 // Answers and writes the whole requests among the first `total` bytes, and keeps the rest.
 fn answered(buf: &mut [u8], out: &mut [u8], total: usize, written: u64) -> Ended
-    requires { ⌜ Large (now buf) × Large (now out) × (total ≤ 38688) × (written < 4611686018427387904) ⌝ }
-    ensures { λ t. ⌜ (t .kept < 104) × (t .written ≤ written + 372) ⌝ }
+    requires { ⌜ Large (now buf) × Large (now out) × (total ≤ room F) × (written < 9223372036854775808) ⌝ }
+    ensures { λ t. ⌜ (t .kept < requestSize F) × (t .written ≤ written + batch F) ⌝ }
 {
     let n = answer_whole(buf, out, total);
     let end = ANSWER_SIZE * n;
@@ -86,12 +88,12 @@ fn answered(buf: &mut [u8], out: &mut [u8], total: usize, written: u64) -> Ended
 
 // The end of the input, with `have` bytes of a last request.
 fn last(buf: &[u8], have: usize, written: u64)
-    requires { ⌜ Large (now buf) × (have < 104) ⌝ }
+    requires { ⌜ Large (now buf) × (have < requestSize F) ⌝ }
 {
     if have == 0 {
         return;
     }
-    let mut one = [0u8; 176];
+    let mut one = [0u8; ANSWER_SIZE];
     zanikory_answer_record(&buf[..have], &mut one);
     if put(&one) < ANSWER_SIZE {
         say(b"answers: cannot write: ", written);
@@ -100,8 +102,8 @@ fn last(buf: &[u8], have: usize, written: u64)
 
 // Reads once, behind the `have` bytes that are kept, and answers what came.
 fn turn(buf: &mut [u8], out: &mut [u8], have: usize, written: u64) -> Ended
-    requires { ⌜ Large (now buf) × Large (now out) × (have < 104) × (written < 4611686018427387904) ⌝ }
-    ensures { λ t. ⌜ (t .kept < 104) × (t .written ≤ written + 372) ⌝ }
+    requires { ⌜ Large (now buf) × Large (now out) × (have < requestSize F) × (written < 9223372036854775808) ⌝ }
+    ensures { λ t. ⌜ (t .kept < requestSize F) × (t .written ≤ written + batch F) ⌝ }
 {
     let got = libc::read(STDIN_FILENO, &mut buf[have..ROOM]);
     if got < 0 {

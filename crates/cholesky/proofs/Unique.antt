@@ -2,8 +2,9 @@
 use mathlib.Core.Path.{sym, _∙_}
 use mathlib.Core.List.{List}
 use Prim.Native.Nat.{ℕ}
-use lib.Ieee.{Float, binary64}
+use lib.Ieee.{Float}
 use contract.Lifetimes.{Lfts}
+use Rattle.float.specs.Width.{F}
 use Rattle.float.specs.OneAnswer.{OneAnswer, OneOutcome}
 use Rattle.float.proofs.OneAnswer.{named, both-named}
 use Rattle.matrix.specs.declared.symmetric.Sym2.{Sym2}
@@ -25,7 +26,7 @@ use Rattle.cholesky.proofs.cholesky3x3.cholesky_3x3_explicit_solve.Read
 use Rattle.cholesky.proofs.cholesky3x3.factor_and_solve.Reads as factor-and-solve3
 
 pub one-pivot-step : (t : Float) (k : ℕ) → OneAnswer (λ (p : Pivot). pivot-step.Post tt (t, (k, tt)) p (t, (k, tt)))
-one-pivot-step t k p q a b = same-pivot binary64 p q (a ∙ sym b)
+one-pivot-step t k p q a b = same-pivot F p q (a ∙ sym b)
 
 pub one-refusal-of : (p : Pivot) → OneAnswer (λ (r : Refusal). refusal-of.Post tt (p, tt) r (p, tt))
 one-refusal-of p = named _

@@ -1,8 +1,9 @@
-// The 2x2 Cholesky factor, and the solution it gives.
+// The 2x2 Cholesky factor, and the solution it gives. Real is f64 (float::width).
 use crate::pivot::Pivot;
 use crate::pivot::pivot_step;
 use crate::pivot::refusal_of;
 use float::sign::all_finite;
+use float::width::Real;
 use matrix::answers::Numbers2;
 use matrix::answers::judge2;
 use matrix::answers::put2;
@@ -14,7 +15,7 @@ use matrix::codes::INPUT_NOT_FINITE;
 use matrix::codes::OUTPUT_LENGTH;
 use matrix::symmetric::Sym2;
 ghost use mathlib.Core.Path.{_≡_};
-ghost use lib.Ieee.{binary64};
+ghost use Rattle.float.specs.Width.{F};
 ghost use Rattle.matrix.specs.Answer.{Outcome, numbers2};
 ghost use Rattle.cholesky.specs.Pivot.{pivotAnswer};
 ghost use Rattle.cholesky.specs.Factor.{factor2, ofFactor2, stopped, plain, steps2Of, judgedFactor, factor2Of};
@@ -32,12 +33,12 @@ pub struct Solved2 {
     pub code: u8,
     pub pivot: u8,
     pub factor: Sym2,
-    pub solution: [f64; 2],
+    pub solution: [Real; 2],
 }
 
 // Stopped at a pivot that has no root, with the writes so far.
 fn stopped(p: Pivot, early: Sym2) -> Factor2
-    ensures { λ r. ⌜ r ≡ factor2 (stopped (pivotAnswer binary64 p) (early .«data»)) ⌝ }
+    ensures { λ r. ⌜ r ≡ factor2 (stopped (pivotAnswer F p) (early .«data»)) ⌝ }
 {
     let why = refusal_of(p);
     Factor2 {
@@ -59,7 +60,7 @@ fn whole(l: Sym2) -> Factor2
 
 // The steps, unjudged. What is not written is the old factor's.
 fn steps(l: Sym2, a: Sym2) -> Factor2
-    ensures { λ r. ⌜ r ≡ factor2 (steps2Of binary64 (l .«data») (a .«data»)) ⌝ }
+    ensures { λ r. ⌜ r ≡ factor2 (steps2Of F (l .«data») (a .«data»)) ⌝ }
 {
     let d = a.data;
     let o = l.data;
@@ -103,7 +104,7 @@ fn judge_factor(l: Sym2, r: Factor2) -> Factor2
 
 // The factor of a, over the old factor l: on refusal 6 the early writes stand, on 5 and 7 all of l does.
 pub fn cholesky_2x2_explicit_factor(l: Sym2, a: Sym2) -> Factor2
-    ensures { λ r. ⌜ r ≡ factor2 (factor2Of binary64 (l .«data») (a .«data»)) ⌝ }
+    ensures { λ r. ⌜ r ≡ factor2 (factor2Of F (l .«data») (a .«data»)) ⌝ }
 {
     let d = a.data;
     if !all_finite(&d) {
@@ -117,8 +118,8 @@ pub fn cholesky_2x2_explicit_factor(l: Sym2, a: Sym2) -> Factor2
 }
 
 // Forward substitution for L c = b, then backward for L' x = c.
-fn substitute(l: Sym2, b: [f64; 2]) -> [f64; 2]
-    ensures { λ x. ⌜ x ≡ solution2Of binary64 (l .«data») b ⌝ }
+fn substitute(l: Sym2, b: [Real; 2]) -> [Real; 2]
+    ensures { λ x. ⌜ x ≡ solution2Of F (l .«data») b ⌝ }
 {
     let d = l.data;
     let c0 = b[0] / d[0];
@@ -128,8 +129,8 @@ fn substitute(l: Sym2, b: [f64; 2]) -> [f64; 2]
     [x0, x1]
 }
 
-fn judged_solution(l: Sym2, b: [f64; 2]) -> Numbers2
-    ensures { λ r. ⌜ r ≡ numbers2 (judgedSolution binary64 2 (l .«data») b (solution2Of binary64 (l .«data») b)) ⌝ }
+fn judged_solution(l: Sym2, b: [Real; 2]) -> Numbers2
+    ensures { λ r. ⌜ r ≡ numbers2 (judgedSolution F 2 (l .«data») b (solution2Of F (l .«data») b)) ⌝ }
 {
     let d = l.data;
     if !all_finite(&d) {
@@ -142,8 +143,8 @@ fn judged_solution(l: Sym2, b: [f64; 2]) -> Numbers2
 }
 
 // The solution of L L' x = b, on the first 2 places of slices of 2 or more.
-pub fn cholesky_2x2_explicit_solve(l: Sym2, x: &mut [f64], b: &[f64]) -> u8
-    ensures { λ r. ⌜ Outcome (solve2Of binary64 (l .«data») (now (b .entry)) (now (x .entry))) r (now (x .exit)) ⌝ }
+pub fn cholesky_2x2_explicit_solve(l: Sym2, x: &mut [Real], b: &[Real]) -> u8
+    ensures { λ r. ⌜ Outcome (solve2Of F (l .«data») (now (b .entry)) (now (x .entry))) r (now (x .exit)) ⌝ }
 {
     if x.len() < 2 {
         return OUTPUT_LENGTH;
@@ -155,7 +156,7 @@ pub fn cholesky_2x2_explicit_solve(l: Sym2, x: &mut [f64], b: &[f64]) -> u8
 }
 
 fn refused(code: u8, pivot: u8) -> Solved2
-    ensures { λ r. ⌜ r ≡ solved2 (refusedSolved binary64 3 2 code pivot) ⌝ }
+    ensures { λ r. ⌜ r ≡ solved2 (refusedSolved F 3 2 code pivot) ⌝ }
 {
     Solved2 {
         code,
@@ -165,8 +166,8 @@ fn refused(code: u8, pivot: u8) -> Solved2
     }
 }
 
-fn judge_solved(r: Factor2, x: [f64; 2]) -> Solved2
-    ensures { λ q. ⌜ q ≡ solved2 (judgedSolved binary64 3 2 (ofFactor2 r) x) ⌝ }
+fn judge_solved(r: Factor2, x: [Real; 2]) -> Solved2
+    ensures { λ q. ⌜ q ≡ solved2 (judgedSolved F 3 2 (ofFactor2 r) x) ⌝ }
 {
     let code = r.code;
     let l = r.factor;
@@ -189,8 +190,8 @@ fn judge_solved(r: Factor2, x: [f64; 2]) -> Solved2
 }
 
 // The factor of a, and the solution of a x = b.
-pub fn factor_and_solve(a: Sym2, b: [f64; 2]) -> Solved2
-    ensures { λ r. ⌜ r ≡ solved2 (factorAndSolve2Of binary64 (a .«data») b) ⌝ }
+pub fn factor_and_solve(a: Sym2, b: [Real; 2]) -> Solved2
+    ensures { λ r. ⌜ r ≡ solved2 (factorAndSolve2Of F (a .«data») b) ⌝ }
 {
     let d = a.data;
     if !all_finite(&d) {

@@ -1,8 +1,9 @@
-// The 3x3 Cholesky factor, and the solution it gives.
+// The 3x3 Cholesky factor, and the solution it gives. Real is f64 (float::width).
 use crate::pivot::Pivot;
 use crate::pivot::pivot_step;
 use crate::pivot::refusal_of;
 use float::sign::all_finite;
+use float::width::Real;
 use matrix::answers::Numbers3;
 use matrix::answers::judge3;
 use matrix::answers::put3;
@@ -14,7 +15,7 @@ use matrix::codes::INPUT_NOT_FINITE;
 use matrix::codes::OUTPUT_LENGTH;
 use matrix::symmetric::Sym3;
 ghost use mathlib.Core.Path.{_≡_};
-ghost use lib.Ieee.{binary64};
+ghost use Rattle.float.specs.Width.{F};
 ghost use Rattle.matrix.specs.Answer.{Outcome, numbers3};
 ghost use Rattle.cholesky.specs.Pivot.{pivotAnswer};
 ghost use Rattle.cholesky.specs.Factor.{factor3, ofFactor3, stopped, plain, steps3Of, judgedFactor, factor3Of};
@@ -32,12 +33,12 @@ pub struct Solved3 {
     pub code: u8,
     pub pivot: u8,
     pub factor: Sym3,
-    pub solution: [f64; 3],
+    pub solution: [Real; 3],
 }
 
 // Stopped at a pivot that has no root, with the writes so far.
 fn stopped(p: Pivot, early: Sym3) -> Factor3
-    ensures { λ r. ⌜ r ≡ factor3 (stopped (pivotAnswer binary64 p) (early .«data»)) ⌝ }
+    ensures { λ r. ⌜ r ≡ factor3 (stopped (pivotAnswer F p) (early .«data»)) ⌝ }
 {
     let why = refusal_of(p);
     Factor3 {
@@ -59,7 +60,7 @@ fn whole(l: Sym3) -> Factor3
 
 // The steps, unjudged. What is not written is the old factor's.
 fn steps(l: Sym3, a: Sym3) -> Factor3
-    ensures { λ r. ⌜ r ≡ factor3 (steps3Of binary64 (l .«data») (a .«data»)) ⌝ }
+    ensures { λ r. ⌜ r ≡ factor3 (steps3Of F (l .«data») (a .«data»)) ⌝ }
 {
     let d = a.data;
     let o = l.data;
@@ -114,7 +115,7 @@ fn judge_factor(l: Sym3, r: Factor3) -> Factor3
 
 // The factor of a, over the old factor l: on refusal 6 the early writes stand, on 5 and 7 all of l does.
 pub fn cholesky_3x3_explicit_factor(l: Sym3, a: Sym3) -> Factor3
-    ensures { λ r. ⌜ r ≡ factor3 (factor3Of binary64 (l .«data») (a .«data»)) ⌝ }
+    ensures { λ r. ⌜ r ≡ factor3 (factor3Of F (l .«data») (a .«data»)) ⌝ }
 {
     let d = a.data;
     if !all_finite(&d) {
@@ -128,8 +129,8 @@ pub fn cholesky_3x3_explicit_factor(l: Sym3, a: Sym3) -> Factor3
 }
 
 // Forward substitution for L c = b, then backward for L' x = c.
-fn substitute(l: Sym3, b: [f64; 3]) -> [f64; 3]
-    ensures { λ x. ⌜ x ≡ solution3Of binary64 (l .«data») b ⌝ }
+fn substitute(l: Sym3, b: [Real; 3]) -> [Real; 3]
+    ensures { λ x. ⌜ x ≡ solution3Of F (l .«data») b ⌝ }
 {
     let d = l.data;
     let c0 = b[0] / d[0];
@@ -141,8 +142,8 @@ fn substitute(l: Sym3, b: [f64; 3]) -> [f64; 3]
     [x0, x1, x2]
 }
 
-fn judged_solution(l: Sym3, b: [f64; 3]) -> Numbers3
-    ensures { λ r. ⌜ r ≡ numbers3 (judgedSolution binary64 3 (l .«data») b (solution3Of binary64 (l .«data») b)) ⌝ }
+fn judged_solution(l: Sym3, b: [Real; 3]) -> Numbers3
+    ensures { λ r. ⌜ r ≡ numbers3 (judgedSolution F 3 (l .«data») b (solution3Of F (l .«data») b)) ⌝ }
 {
     let d = l.data;
     if !all_finite(&d) {
@@ -155,8 +156,8 @@ fn judged_solution(l: Sym3, b: [f64; 3]) -> Numbers3
 }
 
 // The solution of L L' x = b, on the first 3 places of slices of 3 or more.
-pub fn cholesky_3x3_explicit_solve(l: Sym3, x: &mut [f64], b: &[f64]) -> u8
-    ensures { λ r. ⌜ Outcome (solve3Of binary64 (l .«data») (now (b .entry)) (now (x .entry))) r (now (x .exit)) ⌝ }
+pub fn cholesky_3x3_explicit_solve(l: Sym3, x: &mut [Real], b: &[Real]) -> u8
+    ensures { λ r. ⌜ Outcome (solve3Of F (l .«data») (now (b .entry)) (now (x .entry))) r (now (x .exit)) ⌝ }
 {
     if x.len() < 3 {
         return OUTPUT_LENGTH;
@@ -168,7 +169,7 @@ pub fn cholesky_3x3_explicit_solve(l: Sym3, x: &mut [f64], b: &[f64]) -> u8
 }
 
 fn refused(code: u8, pivot: u8) -> Solved3
-    ensures { λ r. ⌜ r ≡ solved3 (refusedSolved binary64 6 3 code pivot) ⌝ }
+    ensures { λ r. ⌜ r ≡ solved3 (refusedSolved F 6 3 code pivot) ⌝ }
 {
     Solved3 {
         code,
@@ -178,8 +179,8 @@ fn refused(code: u8, pivot: u8) -> Solved3
     }
 }
 
-fn judge_solved(r: Factor3, x: [f64; 3]) -> Solved3
-    ensures { λ q. ⌜ q ≡ solved3 (judgedSolved binary64 6 3 (ofFactor3 r) x) ⌝ }
+fn judge_solved(r: Factor3, x: [Real; 3]) -> Solved3
+    ensures { λ q. ⌜ q ≡ solved3 (judgedSolved F 6 3 (ofFactor3 r) x) ⌝ }
 {
     let code = r.code;
     let l = r.factor;
@@ -202,8 +203,8 @@ fn judge_solved(r: Factor3, x: [f64; 3]) -> Solved3
 }
 
 // The factor of a, and the solution of a x = b.
-pub fn factor_and_solve(a: Sym3, b: [f64; 3]) -> Solved3
-    ensures { λ r. ⌜ r ≡ solved3 (factorAndSolve3Of binary64 (a .«data») b) ⌝ }
+pub fn factor_and_solve(a: Sym3, b: [Real; 3]) -> Solved3
+    ensures { λ r. ⌜ r ≡ solved3 (factorAndSolve3Of F (a .«data») b) ⌝ }
 {
     let d = a.data;
     if !all_finite(&d) {

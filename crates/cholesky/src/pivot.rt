@@ -1,14 +1,15 @@
-// The pivot step, of both factors.
+// The pivot step, of both factors. Real is f64 (float::width).
 use float::root::root;
+use float::width::Real;
 use matrix::codes::DONE;
 use matrix::codes::PIVOT;
 ghost use mathlib.Core.Path.{_≡_};
-ghost use lib.Ieee.{binary64};
+ghost use Rattle.float.specs.Width.{F};
 ghost use Rattle.cholesky.specs.Pivot.{pivotAnswer, pivotOf, refusalOf};
 
 // A pivot's root, or the number of the pivot that was refused.
 pub enum Pivot {
-    Root(f64),
+    Root(Real),
     Refused(u8),
 }
 
@@ -19,8 +20,8 @@ pub struct Refusal {
 }
 
 // A pivot that is not above zero is refused, -0 too. One that is no number passes, as in the crate, and so does its root.
-pub fn pivot_step(t: f64, k: u8) -> Pivot
-    ensures { λ p. ⌜ pivotAnswer binary64 p ≡ pivotOf binary64 t k ⌝ }
+pub fn pivot_step(t: Real, k: u8) -> Pivot
+    ensures { λ p. ⌜ pivotAnswer F p ≡ pivotOf F t k ⌝ }
 {
     if t <= 0.0 {
         Pivot::Refused(k)
@@ -30,7 +31,7 @@ pub fn pivot_step(t: f64, k: u8) -> Pivot
 }
 
 pub fn refusal_of(p: Pivot) -> Refusal
-    ensures { λ r. ⌜ r ≡ refusalOf (pivotAnswer binary64 p) ⌝ }
+    ensures { λ r. ⌜ r ≡ refusalOf (pivotAnswer F p) ⌝ }
 {
     match p {
         Pivot::Root(_) => Refusal {

@@ -4,7 +4,8 @@ use mathlib.Core.Bool.{Bool, true, false}
 use mathlib.Core.Logic.{_⊎_, inl, inr, ⊎-elim}
 use mathlib.Core.List.{List}
 use Prim.Native.Nat.{ℕ}
-use lib.Ieee.{Float, Format, binary64}
+use lib.Ieee.{Float, Format}
+use Rattle.float.specs.Width.{F}
 use Rattle.float.specs.Choice.{pick}
 use Rattle.float.specs.Sign.{allFinite}
 use Rattle.matrix.specs.declared.symmetric.Sym3.{Sym3}
@@ -88,8 +89,8 @@ abbrev pub without : Eigen3 → EigVals3
 without r = record { code = r .code; count = r .count; settled = r .settled; values = r .values; worked = r .worked }
 
 pub same-calls : (a : Sym3) (r : Eigen3) (q : EigVals3) → eigen-jacobi.Post tt (a, tt) r (a, tt) → eigvals-jacobi.Post tt (a, tt) q (a, tt)
-    → (without r ≡ q) ⊎ (VectorsLost binary64 (a .«data») × (r .code ≡ 7) × (q .code ≡ 0))
+    → (without r ≡ q) ⊎ (VectorsLost F (a .«data») × (r .code ≡ 7) × (q .code ≡ 0))
 same-calls a r q p s =
     rw (p, s)
     (⊎-elim (λ e. inl (ap eigvals3 e)) (λ l. inr (l .0, ap (λ (r : EigenAnswer). r .code) (l .1), ap (λ (q : ValuesAnswer). q .code) (l .2)))
-    (same-but-vectors binary64 (a .«data»)))
+    (same-but-vectors F (a .«data»)))

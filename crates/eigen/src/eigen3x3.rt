@@ -1,4 +1,4 @@
-// The 3x3 call: at most 25 rotations of the largest pair, until all that lies beside the diagonal is under 2^-44.
+// The 3x3 call: at most 25 rotations of the largest pair, until all that lies beside the diagonal is under 2^-44. Real is f64 (float::width).
 use crate::order::Sorted;
 use crate::order::sort3;
 use crate::order::sort3_with_columns;
@@ -6,13 +6,15 @@ use crate::pairs::find_largest_off_diag;
 use crate::pairs::rotate_pair;
 use crate::pairs::update_eigenvectors;
 use float::sign::all_finite;
+use float::width::LIMIT;
+use float::width::Real;
 use matrix::codes::ANSWER_NOT_FINITE;
 use matrix::codes::DONE;
 use matrix::codes::INPUT_NOT_FINITE;
 use matrix::square::Mat3;
 use matrix::symmetric::Sym3;
 ghost use mathlib.Core.Path.{_≡_};
-ghost use lib.Ieee.{binary64};
+ghost use Rattle.float.specs.Width.{F};
 ghost use Rattle.float.specs.Constants.{limitF};
 ghost use Rattle.eigen.specs.Order.{sorted, ranked};
 ghost use Rattle.eigen.specs.Eigen3x3.{working, bare, ofWorking, ofBare, settledOf, workOf, startOf, bareWorkOf, bareStartOf, eigen3, eigvals3, refusedEigen, refusedValues, rankedOf, judgedEigen, eigenOf, bareEndOf, eigvalsOf};
@@ -34,7 +36,7 @@ pub struct Eigen3 {
     pub code: u8,
     pub count: u8,
     pub settled: bool,
-    pub values: [f64; 3],
+    pub values: [Real; 3],
     pub vectors: Mat3,
     pub worked: Sym3,
 }
@@ -43,28 +45,28 @@ pub struct EigVals3 {
     pub code: u8,
     pub count: u8,
     pub settled: bool,
-    pub values: [f64; 3],
+    pub values: [Real; 3],
     pub worked: Sym3,
 }
 
 // Whether all that lies beside the diagonal is strictly under 2^-44.
 fn is_settled(a: Sym3) -> bool
-    ensures { λ r. ⌜ r ≡ settledOf binary64 (a .«data») ⌝ }
+    ensures { λ r. ⌜ r ≡ settledOf F (a .«data») ⌝ }
 {
     let largest = find_largest_off_diag(a);
     largest.size < limit()
 }
 
 // The crate's limit, 256 times the distance from 1 to the next number: 2^-44.
-fn limit() -> f64
-    ensures { λ r. ⌜ r ≡ limitF binary64 ⌝ }
+fn limit() -> Real
+    ensures { λ r. ⌜ r ≡ limitF F ⌝ }
 {
-    5.684341886080802e-14
+    LIMIT
 }
 
 // The run of at most 25 rotations, with vectors.
 fn work(a: Sym3) -> Working
-    ensures { λ w. ⌜ w ≡ working (workOf binary64 25 (startOf binary64 (a .«data»))) ⌝ }
+    ensures { λ w. ⌜ w ≡ working (workOf F 25 (startOf F (a .«data»))) ⌝ }
 {
     let mut b = a;
     let mut v = Mat3::zeros().set_identity();
@@ -86,7 +88,7 @@ fn work(a: Sym3) -> Working
 
 // The same run without vectors.
 fn work_values(a: Sym3) -> Bare
-    ensures { λ w. ⌜ w ≡ bare (bareWorkOf binary64 25 (bareStartOf (a .«data»))) ⌝ }
+    ensures { λ w. ⌜ w ≡ bare (bareWorkOf F 25 (bareStartOf (a .«data»))) ⌝ }
 {
     let mut b = a;
     let mut count: u8 = 0;
@@ -104,7 +106,7 @@ fn work_values(a: Sym3) -> Bare
 }
 
 fn refused(code: u8) -> Eigen3
-    ensures { λ r. ⌜ r ≡ eigen3 (refusedEigen binary64 code) ⌝ }
+    ensures { λ r. ⌜ r ≡ eigen3 (refusedEigen F code) ⌝ }
 {
     Eigen3 {
         code,
@@ -128,7 +130,7 @@ fn rank(w: Working) -> Sorted
 
 // The answer, if all its numbers are finite. The values are numbers of the matrix.
 fn judge(w: Working, x: Sorted) -> Eigen3
-    ensures { λ r. ⌜ r ≡ eigen3 (judgedEigen binary64 (ofWorking w) (ranked x)) ⌝ }
+    ensures { λ r. ⌜ r ≡ eigen3 (judgedEigen F (ofWorking w) (ranked x)) ⌝ }
 {
     let a = w.a;
     let d = a.data;
@@ -154,7 +156,7 @@ fn judge(w: Working, x: Sorted) -> Eigen3
 
 // Values in ascending order, with their vectors.
 pub fn eigen_jacobi(a: Sym3) -> Eigen3
-    ensures { λ r. ⌜ r ≡ eigen3 (eigenOf binary64 (a .«data»)) ⌝ }
+    ensures { λ r. ⌜ r ≡ eigen3 (eigenOf F (a .«data»)) ⌝ }
 {
     let d = a.data;
     if !all_finite(&d) {
@@ -165,7 +167,7 @@ pub fn eigen_jacobi(a: Sym3) -> Eigen3
 }
 
 fn refused_values(code: u8) -> EigVals3
-    ensures { λ r. ⌜ r ≡ eigvals3 (refusedValues binary64 code) ⌝ }
+    ensures { λ r. ⌜ r ≡ eigvals3 (refusedValues F code) ⌝ }
 {
     EigVals3 {
         code,
@@ -177,7 +179,7 @@ fn refused_values(code: u8) -> EigVals3
 }
 
 fn judge_values(w: Bare) -> EigVals3
-    ensures { λ r. ⌜ r ≡ eigvals3 (bareEndOf binary64 (ofBare w)) ⌝ }
+    ensures { λ r. ⌜ r ≡ eigvals3 (bareEndOf F (ofBare w)) ⌝ }
 {
     let a = w.a;
     let d = a.data;
@@ -197,7 +199,7 @@ fn judge_values(w: Bare) -> EigVals3
 
 // Values in ascending order.
 pub fn eigvals_jacobi(a: Sym3) -> EigVals3
-    ensures { λ r. ⌜ r ≡ eigvals3 (eigvalsOf binary64 (a .«data»)) ⌝ }
+    ensures { λ r. ⌜ r ≡ eigvals3 (eigvalsOf F (a .«data»)) ⌝ }
 {
     let d = a.data;
     if !all_finite(&d) {

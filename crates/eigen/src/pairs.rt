@@ -1,11 +1,12 @@
-// The three pairs of a symmetric 3x3: which is the largest, and what a rotation of one makes of the matrix and the vectors.
+// The three pairs of a symmetric 3x3: which is the largest, and what a rotation of one makes of the matrix and the vectors. Real is f64 (float::width).
 use crate::rotation::Rotation;
 use crate::rotation::compute_jacobi_rotation;
 use float::sign::magnitude;
+use float::width::Real;
 use matrix::square::Mat3;
 use matrix::symmetric::Sym3;
 ghost use mathlib.Core.Path.{_≡_};
-ghost use lib.Ieee.{binary64};
+ghost use Rattle.float.specs.Width.{F};
 ghost use Rattle.matrix.specs.Square.{mat3};
 ghost use Rattle.matrix.specs.Symmetric.{sym3};
 ghost use Rattle.eigen.specs.Rotation.{rotation, turn};
@@ -21,7 +22,7 @@ pub enum Pair {
 // A pair and the magnitude of its number beside the diagonal.
 pub struct OffDiag {
     pub pair: Pair,
-    pub size: f64,
+    pub size: Real,
 }
 
 // The largest of the three, the first on ties.
@@ -61,7 +62,7 @@ pub fn find_largest_off_diag(a: Sym3) -> OffDiag
 
 // The rotation of a pair.
 fn rotation_of(a: Sym3, p: Pair) -> Rotation
-    ensures { λ r. ⌜ r ≡ rotation (turnOf binary64 p (a .«data»)) ⌝ }
+    ensures { λ r. ⌜ r ≡ rotation (turnOf F p (a .«data»)) ⌝ }
 {
     let d = a.data;
     match p {
@@ -72,7 +73,7 @@ fn rotation_of(a: Sym3, p: Pair) -> Rotation
 }
 
 fn apply12(a: Sym3, r: Rotation) -> Sym3
-    ensures { λ b. ⌜ b ≡ sym3 (applied12 binary64 (turn r) (a .«data»)) ⌝ }
+    ensures { λ b. ⌜ b ≡ sym3 (applied12 F (turn r) (a .«data»)) ⌝ }
 {
     let d = a.data;
     let s = r.s;
@@ -91,7 +92,7 @@ fn apply12(a: Sym3, r: Rotation) -> Sym3
 }
 
 fn apply13(a: Sym3, r: Rotation) -> Sym3
-    ensures { λ b. ⌜ b ≡ sym3 (applied13 binary64 (turn r) (a .«data»)) ⌝ }
+    ensures { λ b. ⌜ b ≡ sym3 (applied13 F (turn r) (a .«data»)) ⌝ }
 {
     let d = a.data;
     let s = r.s;
@@ -110,7 +111,7 @@ fn apply13(a: Sym3, r: Rotation) -> Sym3
 }
 
 fn apply23(a: Sym3, r: Rotation) -> Sym3
-    ensures { λ b. ⌜ b ≡ sym3 (applied23 binary64 (turn r) (a .«data»)) ⌝ }
+    ensures { λ b. ⌜ b ≡ sym3 (applied23 F (turn r) (a .«data»)) ⌝ }
 {
     let d = a.data;
     let s = r.s;
@@ -130,7 +131,7 @@ fn apply23(a: Sym3, r: Rotation) -> Sym3
 
 // The matrix after a rotation of the pair.
 pub fn apply_rotation(a: Sym3, p: Pair, r: Rotation) -> Sym3
-    ensures { λ b. ⌜ b ≡ sym3 (appliedOf binary64 p (turn r) (a .«data»)) ⌝ }
+    ensures { λ b. ⌜ b ≡ sym3 (appliedOf F p (turn r) (a .«data»)) ⌝ }
 {
     match p {
         Pair::P12 => apply12(a, r),
@@ -147,15 +148,15 @@ pub struct Turned {
 
 // One step of the matrix: the rotation of the pair is chosen and applied.
 pub(crate) fn rotate_pair(a: Sym3, p: Pair) -> Turned
-    ensures { λ w. ⌜ w ≡ turnedPair binary64 p (a .«data») ⌝ }
+    ensures { λ w. ⌜ w ≡ turnedPair F p (a .«data») ⌝ }
 {
     let r = rotation_of(a, p);
     let b = apply_rotation(a, p, r);
     Turned { a: b, r }
 }
 
-fn turn12(v: Mat3, c: f64, s: f64) -> Mat3
-    ensures { λ w. ⌜ w ≡ mat3 (turned12 binary64 c s (v .«data»)) ⌝ }
+fn turn12(v: Mat3, c: Real, s: Real) -> Mat3
+    ensures { λ w. ⌜ w ≡ mat3 (turned12 F c s (v .«data»)) ⌝ }
 {
     let d = v.data;
     Mat3 {
@@ -173,8 +174,8 @@ fn turn12(v: Mat3, c: f64, s: f64) -> Mat3
     }
 }
 
-fn turn13(v: Mat3, c: f64, s: f64) -> Mat3
-    ensures { λ w. ⌜ w ≡ mat3 (turned13 binary64 c s (v .«data»)) ⌝ }
+fn turn13(v: Mat3, c: Real, s: Real) -> Mat3
+    ensures { λ w. ⌜ w ≡ mat3 (turned13 F c s (v .«data»)) ⌝ }
 {
     let d = v.data;
     Mat3 {
@@ -192,8 +193,8 @@ fn turn13(v: Mat3, c: f64, s: f64) -> Mat3
     }
 }
 
-fn turn23(v: Mat3, c: f64, s: f64) -> Mat3
-    ensures { λ w. ⌜ w ≡ mat3 (turned23 binary64 c s (v .«data»)) ⌝ }
+fn turn23(v: Mat3, c: Real, s: Real) -> Mat3
+    ensures { λ w. ⌜ w ≡ mat3 (turned23 F c s (v .«data»)) ⌝ }
 {
     let d = v.data;
     Mat3 {
@@ -212,8 +213,8 @@ fn turn23(v: Mat3, c: f64, s: f64) -> Mat3
 }
 
 // The columns of the pair turned into each other, by cosine and sine alone.
-pub fn turn_columns(v: Mat3, p: Pair, c: f64, s: f64) -> Mat3
-    ensures { λ w. ⌜ w ≡ mat3 (turnedOf binary64 p c s (v .«data»)) ⌝ }
+pub fn turn_columns(v: Mat3, p: Pair, c: Real, s: Real) -> Mat3
+    ensures { λ w. ⌜ w ≡ mat3 (turnedOf F p c s (v .«data»)) ⌝ }
 {
     match p {
         Pair::P12 => turn12(v, c, s),
@@ -224,7 +225,7 @@ pub fn turn_columns(v: Mat3, p: Pair, c: f64, s: f64) -> Mat3
 
 // The vectors after a rotation of the pair.
 pub fn update_eigenvectors(v: Mat3, p: Pair, r: Rotation) -> Mat3
-    ensures { λ w. ⌜ w ≡ mat3 (turnedOf binary64 p (r .c) (r .s) (v .«data»)) ⌝ }
+    ensures { λ w. ⌜ w ≡ mat3 (turnedOf F p (r .c) (r .s) (v .«data»)) ⌝ }
 {
     turn_columns(v, p, r.c, r.s)
 }

@@ -1,28 +1,31 @@
-// The choice of a Jacobi rotation.
+// The choice of a Jacobi rotation. Real is f64 (float::width).
 use float::root::root;
 use float::sign::is_finite;
 use float::sign::magnitude;
 use float::sign::signum;
+use float::width::EPSILON;
+use float::width::HALF_ROOT;
+use float::width::Real;
 ghost use mathlib.Core.Path.{_≡_};
-ghost use lib.Ieee.{binary64};
+ghost use Rattle.float.specs.Width.{F};
 ghost use Rattle.eigen.specs.Rotation.{rotation, largerOf, tangentOf, turnBy, rotationOf};
 
 // Cosine, sine and tangent.
 pub struct Rotation {
-    pub c: f64,
-    pub s: f64,
-    pub t: f64,
+    pub c: Real,
+    pub s: Real,
+    pub t: Real,
 }
 
-fn larger(a: f64, b: f64) -> f64
+fn larger(a: Real, b: Real) -> Real
     ensures { λ r. ⌜ r ≡ largerOf a b ⌝ }
 {
     if a > b { a } else { b }
 }
 
 // The tangent by theta. Where its square is not finite, the inverse of twice theta is near enough.
-fn tangent(theta: f64) -> f64
-    ensures { λ r. ⌜ r ≡ tangentOf binary64 theta ⌝ }
+fn tangent(theta: Real) -> Real
+    ensures { λ r. ⌜ r ≡ tangentOf F theta ⌝ }
 {
     let thetasq = theta * theta;
     if is_finite(thetasq) {
@@ -32,16 +35,16 @@ fn tangent(theta: f64) -> f64
     }
 }
 
-fn turned_by(t: f64) -> Rotation
-    ensures { λ r. ⌜ r ≡ rotation (turnBy binary64 t) ⌝ }
+fn turned_by(t: Real) -> Rotation
+    ensures { λ r. ⌜ r ≡ rotation (turnBy F t) ⌝ }
 {
     let c = 1.0 / root(1.0 + t * t);
     Rotation { c, s: t * c, t }
 }
 
 // The rotation that takes apq away, between the diagonal numbers app and aqq.
-pub fn compute_jacobi_rotation(apq: f64, app: f64, aqq: f64) -> Rotation
-    ensures { λ r. ⌜ r ≡ rotation (rotationOf binary64 apq app aqq) ⌝ }
+pub fn compute_jacobi_rotation(apq: Real, app: Real, aqq: Real) -> Rotation
+    ensures { λ r. ⌜ r ≡ rotation (rotationOf F apq app aqq) ⌝ }
 {
     if apq == 0.0 {
         return Rotation {
@@ -50,8 +53,8 @@ pub fn compute_jacobi_rotation(apq: f64, app: f64, aqq: f64) -> Rotation
             t: 0.0,
         };
     }
-    let epsilon = 2.220446049250313e-16;
-    let h = 0.7071067811865476;
+    let epsilon = EPSILON;
+    let h = HALF_ROOT;
     let diffdiag = aqq - app;
     let d = larger(magnitude(app), magnitude(aqq));
     if d < epsilon {

@@ -1,4 +1,4 @@
-// Products, Cholesky factors and solutions, eigenvalues and singular values, on slices of doubles.
+// Products, Cholesky factors and solutions, eigenvalues and singular values, on slices of doubles. Real is f64 (float::width).
 use crate::slices::mat2_of;
 use crate::slices::mat3_of;
 use crate::slices::put;
@@ -13,6 +13,7 @@ use cholesky::cholesky3x3::cholesky_3x3_explicit_factor;
 use cholesky::cholesky3x3::cholesky_3x3_explicit_solve;
 use eigen::eigen3x3::Eigen3;
 use eigen::eigen3x3::eigen_jacobi;
+use float::width::Real;
 use matrix::codes::DONE;
 use matrix::codes::INPUT_LENGTH;
 use matrix::codes::OUTPUT_LENGTH;
@@ -20,14 +21,14 @@ use svd::svd3x3::Svd3;
 use svd::svd3x3::svd;
 ghost use mathlib.Core.Path.{_≡_};
 ghost use lib.ListN.{length};
-ghost use lib.Ieee.{binary64};
+ghost use Rattle.float.specs.Width.{F};
 ghost use Rattle.matrix.specs.Answer.{Outcome};
 ghost use Rattle.eigen.specs.Eigen3x3.{ofEigen3};
 ghost use Rattle.exports.specs.Kernels.{squareMulOf, packedMulOf, factor2Into, factor3Into, solve2Into, solve3Into, eigenNumbers, eigen3Into, ofSvd3, svdNumbers, svd3Into};
 
 #[no_mangle]
-pub extern "C" fn zanikory_mat2_mul(a: &[f64], y: &mut [f64], x: &[f64]) -> u8
-    ensures { λ r. ⌜ Outcome (squareMulOf binary64 2 (now (a .entry)) (now (x .entry)) (now (y .entry))) r (now (y .exit)) ⌝ }
+pub extern "C" fn zanikory_mat2_mul(a: &[Real], y: &mut [Real], x: &[Real]) -> u8
+    ensures { λ r. ⌜ Outcome (squareMulOf F 2 (now (a .entry)) (now (x .entry)) (now (y .entry))) r (now (y .exit)) ⌝ }
 {
     if y.len() != 2 {
         return OUTPUT_LENGTH;
@@ -39,8 +40,8 @@ pub extern "C" fn zanikory_mat2_mul(a: &[f64], y: &mut [f64], x: &[f64]) -> u8
 }
 
 #[no_mangle]
-pub extern "C" fn zanikory_mat3_mul(a: &[f64], y: &mut [f64], x: &[f64]) -> u8
-    ensures { λ r. ⌜ Outcome (squareMulOf binary64 3 (now (a .entry)) (now (x .entry)) (now (y .entry))) r (now (y .exit)) ⌝ }
+pub extern "C" fn zanikory_mat3_mul(a: &[Real], y: &mut [Real], x: &[Real]) -> u8
+    ensures { λ r. ⌜ Outcome (squareMulOf F 3 (now (a .entry)) (now (x .entry)) (now (y .entry))) r (now (y .exit)) ⌝ }
 {
     if y.len() != 3 {
         return OUTPUT_LENGTH;
@@ -52,8 +53,8 @@ pub extern "C" fn zanikory_mat3_mul(a: &[f64], y: &mut [f64], x: &[f64]) -> u8
 }
 
 #[no_mangle]
-pub extern "C" fn zanikory_sym3_mul(h: &[f64], y: &mut [f64], x: &[f64]) -> u8
-    ensures { λ r. ⌜ Outcome (packedMulOf binary64 (now (h .entry)) (now (x .entry)) (now (y .entry))) r (now (y .exit)) ⌝ }
+pub extern "C" fn zanikory_sym3_mul(h: &[Real], y: &mut [Real], x: &[Real]) -> u8
+    ensures { λ r. ⌜ Outcome (packedMulOf F (now (h .entry)) (now (x .entry)) (now (y .entry))) r (now (y .exit)) ⌝ }
 {
     if y.len() < 3 {
         return OUTPUT_LENGTH;
@@ -66,8 +67,8 @@ pub extern "C" fn zanikory_sym3_mul(h: &[f64], y: &mut [f64], x: &[f64]) -> u8
 
 // The old factor l is replaced as far as the kernel writes.
 #[no_mangle]
-pub extern "C" fn zanikory_cholesky_2x2_factor(l: &[f64], a: &[f64], out: &mut [f64]) -> u8
-    ensures { λ r. ⌜ Outcome (factor2Into binary64 (now (l .entry)) (now (a .entry)) (now (out .entry))) r (now (out .exit)) ⌝ }
+pub extern "C" fn zanikory_cholesky_2x2_factor(l: &[Real], a: &[Real], out: &mut [Real]) -> u8
+    ensures { λ r. ⌜ Outcome (factor2Into F (now (l .entry)) (now (a .entry)) (now (out .entry))) r (now (out .exit)) ⌝ }
 {
     if out.len() != 3 {
         return OUTPUT_LENGTH;
@@ -87,8 +88,8 @@ pub extern "C" fn zanikory_cholesky_2x2_factor(l: &[f64], a: &[f64], out: &mut [
 
 // The old factor l is replaced as far as the kernel writes.
 #[no_mangle]
-pub extern "C" fn zanikory_cholesky_3x3_factor(l: &[f64], a: &[f64], out: &mut [f64]) -> u8
-    ensures { λ r. ⌜ Outcome (factor3Into binary64 (now (l .entry)) (now (a .entry)) (now (out .entry))) r (now (out .exit)) ⌝ }
+pub extern "C" fn zanikory_cholesky_3x3_factor(l: &[Real], a: &[Real], out: &mut [Real]) -> u8
+    ensures { λ r. ⌜ Outcome (factor3Into F (now (l .entry)) (now (a .entry)) (now (out .entry))) r (now (out .exit)) ⌝ }
 {
     if out.len() != 6 {
         return OUTPUT_LENGTH;
@@ -107,8 +108,8 @@ pub extern "C" fn zanikory_cholesky_3x3_factor(l: &[f64], a: &[f64], out: &mut [
 }
 
 #[no_mangle]
-pub extern "C" fn zanikory_cholesky_2x2_solve(l: &[f64], x: &mut [f64], b: &[f64]) -> u8
-    ensures { λ r. ⌜ Outcome (solve2Into binary64 (now (l .entry)) (now (b .entry)) (now (x .entry))) r (now (x .exit)) ⌝ }
+pub extern "C" fn zanikory_cholesky_2x2_solve(l: &[Real], x: &mut [Real], b: &[Real]) -> u8
+    ensures { λ r. ⌜ Outcome (solve2Into F (now (l .entry)) (now (b .entry)) (now (x .entry))) r (now (x .exit)) ⌝ }
 {
     if x.len() < 2 {
         return OUTPUT_LENGTH;
@@ -120,8 +121,8 @@ pub extern "C" fn zanikory_cholesky_2x2_solve(l: &[f64], x: &mut [f64], b: &[f64
 }
 
 #[no_mangle]
-pub extern "C" fn zanikory_cholesky_3x3_solve(l: &[f64], x: &mut [f64], b: &[f64]) -> u8
-    ensures { λ r. ⌜ Outcome (solve3Into binary64 (now (l .entry)) (now (b .entry)) (now (x .entry))) r (now (x .exit)) ⌝ }
+pub extern "C" fn zanikory_cholesky_3x3_solve(l: &[Real], x: &mut [Real], b: &[Real]) -> u8
+    ensures { λ r. ⌜ Outcome (solve3Into F (now (l .entry)) (now (b .entry)) (now (x .entry))) r (now (x .exit)) ⌝ }
 {
     if x.len() < 3 {
         return OUTPUT_LENGTH;
@@ -133,7 +134,7 @@ pub extern "C" fn zanikory_cholesky_3x3_solve(l: &[f64], x: &mut [f64], b: &[f64
 }
 
 // Values, vectors, worked matrix.
-fn put_eigen(out: &mut [f64], r: Eigen3)
+fn put_eigen(out: &mut [Real], r: Eigen3)
     requires { ⌜ length (now out) ≡ 18 ⌝ }
     ensures { λ _. ⌜ now (out .exit) ≡ eigenNumbers (ofEigen3 r) ⌝ }
 {
@@ -146,8 +147,8 @@ fn put_eigen(out: &mut [f64], r: Eigen3)
 }
 
 #[no_mangle]
-pub extern "C" fn zanikory_eigen_3x3(a: &[f64], out: &mut [f64]) -> u8
-    ensures { λ r. ⌜ Outcome (eigen3Into binary64 (now (a .entry)) (now (out .entry))) r (now (out .exit)) ⌝ }
+pub extern "C" fn zanikory_eigen_3x3(a: &[Real], out: &mut [Real]) -> u8
+    ensures { λ r. ⌜ Outcome (eigen3Into F (now (a .entry)) (now (out .entry))) r (now (out .exit)) ⌝ }
 {
     if out.len() != 18 {
         return OUTPUT_LENGTH;
@@ -165,7 +166,7 @@ pub extern "C" fn zanikory_eigen_3x3(a: &[f64], out: &mut [f64]) -> u8
 }
 
 // Values, U, V, worked matrix.
-fn put_svd(out: &mut [f64], r: Svd3)
+fn put_svd(out: &mut [Real], r: Svd3)
     requires { ⌜ length (now out) ≡ 30 ⌝ }
     ensures { λ _. ⌜ now (out .exit) ≡ svdNumbers (ofSvd3 r) ⌝ }
 {
@@ -180,8 +181,8 @@ fn put_svd(out: &mut [f64], r: Svd3)
 }
 
 #[no_mangle]
-pub extern "C" fn zanikory_svd_3x3(a: &[f64], out: &mut [f64]) -> u8
-    ensures { λ r. ⌜ Outcome (svd3Into binary64 (now (a .entry)) (now (out .entry))) r (now (out .exit)) ⌝ }
+pub extern "C" fn zanikory_svd_3x3(a: &[Real], out: &mut [Real]) -> u8
+    ensures { λ r. ⌜ Outcome (svd3Into F (now (a .entry)) (now (out .entry))) r (now (out .exit)) ⌝ }
 {
     if out.len() != 30 {
         return OUTPUT_LENGTH;

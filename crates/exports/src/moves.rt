@@ -1,9 +1,10 @@
-// Reading, writing and moving the numbers of a matrix, from one slice of doubles into another.
+// Reading, writing and moving the numbers of a matrix, from one slice of doubles into another. Real is f64 (float::width).
 use crate::slices::mat2_of;
 use crate::slices::mat3_of;
 use crate::slices::put;
 use crate::slices::sym2_of;
 use crate::slices::sym3_of;
+use float::width::Real;
 use matrix::answers::Entry;
 use matrix::codes::DONE;
 use matrix::codes::INPUT_LENGTH;
@@ -17,7 +18,7 @@ use matrix::symmetric::Sym2;
 use matrix::symmetric::Sym3;
 ghost use mathlib.Core.Path.{_≡_};
 ghost use lib.ListN.{length};
-ghost use lib.Ieee.{binary64};
+ghost use Rattle.float.specs.Width.{F};
 ghost use Rattle.matrix.specs.Answer.{Outcome, entry};
 ghost use Rattle.matrix.specs.Square.{mat2Answer, mat3Answer};
 ghost use Rattle.exports.specs.Slices.{alone};
@@ -28,14 +29,14 @@ pub(crate) enum Move {
     Transpose,
     SwapColumns(usize, usize),
     FlipColumn(usize),
-    Write(usize, usize, f64),
+    Write(usize, usize, Real),
     Identity,
 }
 
 // The one place of out takes the number, or +0.
-fn put_entry(out: &mut [f64], x: Entry) -> u8
+fn put_entry(out: &mut [Real], x: Entry) -> u8
     requires { ⌜ length (now out) ≡ 1 ⌝ }
-    ensures { λ r. ⌜ Outcome (alone (entry binary64 x)) r (now (out .exit)) ⌝ }
+    ensures { λ r. ⌜ Outcome (alone (entry F x)) r (now (out .exit)) ⌝ }
 {
     match x {
         Entry::Number(number) => {
@@ -50,7 +51,7 @@ fn put_entry(out: &mut [f64], x: Entry) -> u8
 }
 
 fn moved2(by: Move, m: Mat2) -> Mat2Answer
-    ensures { λ r. ⌜ r ≡ mat2Answer (moveOf binary64 2 by (m .«data»)) ⌝ }
+    ensures { λ r. ⌜ r ≡ mat2Answer (moveOf F 2 by (m .«data»)) ⌝ }
 {
     match by {
         Move::Transpose => Mat2Answer {
@@ -67,8 +68,8 @@ fn moved2(by: Move, m: Mat2) -> Mat2Answer
     }
 }
 
-fn move2(by: Move, a: &[f64], out: &mut [f64]) -> u8
-    ensures { λ r. ⌜ Outcome (movedOf binary64 2 by (now (a .entry)) (now (out .entry))) r (now (out .exit)) ⌝ }
+fn move2(by: Move, a: &[Real], out: &mut [Real]) -> u8
+    ensures { λ r. ⌜ Outcome (movedOf F 2 by (now (a .entry)) (now (out .entry))) r (now (out .exit)) ⌝ }
 {
     if out.len() != 4 {
         return OUTPUT_LENGTH;
@@ -84,7 +85,7 @@ fn move2(by: Move, a: &[f64], out: &mut [f64]) -> u8
 }
 
 fn moved3(by: Move, m: Mat3) -> Mat3Answer
-    ensures { λ r. ⌜ r ≡ mat3Answer (moveOf binary64 3 by (m .«data»)) ⌝ }
+    ensures { λ r. ⌜ r ≡ mat3Answer (moveOf F 3 by (m .«data»)) ⌝ }
 {
     match by {
         Move::Transpose => Mat3Answer {
@@ -101,8 +102,8 @@ fn moved3(by: Move, m: Mat3) -> Mat3Answer
     }
 }
 
-fn move3(by: Move, a: &[f64], out: &mut [f64]) -> u8
-    ensures { λ r. ⌜ Outcome (movedOf binary64 3 by (now (a .entry)) (now (out .entry))) r (now (out .exit)) ⌝ }
+fn move3(by: Move, a: &[Real], out: &mut [Real]) -> u8
+    ensures { λ r. ⌜ Outcome (movedOf F 3 by (now (a .entry)) (now (out .entry))) r (now (out .exit)) ⌝ }
 {
     if out.len() != 9 {
         return OUTPUT_LENGTH;
@@ -118,22 +119,22 @@ fn move3(by: Move, a: &[f64], out: &mut [f64]) -> u8
 }
 
 #[no_mangle]
-pub extern "C" fn zanikory_mat2_transpose(a: &[f64], out: &mut [f64]) -> u8
-    ensures { λ r. ⌜ Outcome (movedOf binary64 2 Move.Transpose (now (a .entry)) (now (out .entry))) r (now (out .exit)) ⌝ }
+pub extern "C" fn zanikory_mat2_transpose(a: &[Real], out: &mut [Real]) -> u8
+    ensures { λ r. ⌜ Outcome (movedOf F 2 Move.Transpose (now (a .entry)) (now (out .entry))) r (now (out .exit)) ⌝ }
 {
     move2(Move::Transpose, a, out)
 }
 
 #[no_mangle]
-pub extern "C" fn zanikory_mat2_swap_columns(i: usize, j: usize, a: &[f64], out: &mut [f64]) -> u8
-    ensures { λ r. ⌜ Outcome (movedOf binary64 2 (Move.SwapColumns i j) (now (a .entry)) (now (out .entry))) r (now (out .exit)) ⌝ }
+pub extern "C" fn zanikory_mat2_swap_columns(i: usize, j: usize, a: &[Real], out: &mut [Real]) -> u8
+    ensures { λ r. ⌜ Outcome (movedOf F 2 (Move.SwapColumns i j) (now (a .entry)) (now (out .entry))) r (now (out .exit)) ⌝ }
 {
     move2(Move::SwapColumns(i, j), a, out)
 }
 
 #[no_mangle]
-pub extern "C" fn zanikory_mat2_flip_column(i: usize, a: &[f64], out: &mut [f64]) -> u8
-    ensures { λ r. ⌜ Outcome (movedOf binary64 2 (Move.FlipColumn i) (now (a .entry)) (now (out .entry))) r (now (out .exit)) ⌝ }
+pub extern "C" fn zanikory_mat2_flip_column(i: usize, a: &[Real], out: &mut [Real]) -> u8
+    ensures { λ r. ⌜ Outcome (movedOf F 2 (Move.FlipColumn i) (now (a .entry)) (now (out .entry))) r (now (out .exit)) ⌝ }
 {
     move2(Move::FlipColumn(i), a, out)
 }
@@ -142,39 +143,39 @@ pub extern "C" fn zanikory_mat2_flip_column(i: usize, a: &[f64], out: &mut [f64]
 pub extern "C" fn zanikory_mat2_index_mut(
     row: usize,
     column: usize,
-    x: f64,
-    a: &[f64],
-    out: &mut [f64],
+    x: Real,
+    a: &[Real],
+    out: &mut [Real],
 ) -> u8
-    ensures { λ r. ⌜ Outcome (movedOf binary64 2 (Move.Write row column x) (now (a .entry)) (now (out .entry))) r (now (out .exit)) ⌝ }
+    ensures { λ r. ⌜ Outcome (movedOf F 2 (Move.Write row column x) (now (a .entry)) (now (out .entry))) r (now (out .exit)) ⌝ }
 {
     move2(Move::Write(row, column, x), a, out)
 }
 
 #[no_mangle]
-pub extern "C" fn zanikory_mat2_set_identity(a: &[f64], out: &mut [f64]) -> u8
-    ensures { λ r. ⌜ Outcome (movedOf binary64 2 Move.Identity (now (a .entry)) (now (out .entry))) r (now (out .exit)) ⌝ }
+pub extern "C" fn zanikory_mat2_set_identity(a: &[Real], out: &mut [Real]) -> u8
+    ensures { λ r. ⌜ Outcome (movedOf F 2 Move.Identity (now (a .entry)) (now (out .entry))) r (now (out .exit)) ⌝ }
 {
     move2(Move::Identity, a, out)
 }
 
 #[no_mangle]
-pub extern "C" fn zanikory_mat3_transpose(a: &[f64], out: &mut [f64]) -> u8
-    ensures { λ r. ⌜ Outcome (movedOf binary64 3 Move.Transpose (now (a .entry)) (now (out .entry))) r (now (out .exit)) ⌝ }
+pub extern "C" fn zanikory_mat3_transpose(a: &[Real], out: &mut [Real]) -> u8
+    ensures { λ r. ⌜ Outcome (movedOf F 3 Move.Transpose (now (a .entry)) (now (out .entry))) r (now (out .exit)) ⌝ }
 {
     move3(Move::Transpose, a, out)
 }
 
 #[no_mangle]
-pub extern "C" fn zanikory_mat3_swap_columns(i: usize, j: usize, a: &[f64], out: &mut [f64]) -> u8
-    ensures { λ r. ⌜ Outcome (movedOf binary64 3 (Move.SwapColumns i j) (now (a .entry)) (now (out .entry))) r (now (out .exit)) ⌝ }
+pub extern "C" fn zanikory_mat3_swap_columns(i: usize, j: usize, a: &[Real], out: &mut [Real]) -> u8
+    ensures { λ r. ⌜ Outcome (movedOf F 3 (Move.SwapColumns i j) (now (a .entry)) (now (out .entry))) r (now (out .exit)) ⌝ }
 {
     move3(Move::SwapColumns(i, j), a, out)
 }
 
 #[no_mangle]
-pub extern "C" fn zanikory_mat3_flip_column(i: usize, a: &[f64], out: &mut [f64]) -> u8
-    ensures { λ r. ⌜ Outcome (movedOf binary64 3 (Move.FlipColumn i) (now (a .entry)) (now (out .entry))) r (now (out .exit)) ⌝ }
+pub extern "C" fn zanikory_mat3_flip_column(i: usize, a: &[Real], out: &mut [Real]) -> u8
+    ensures { λ r. ⌜ Outcome (movedOf F 3 (Move.FlipColumn i) (now (a .entry)) (now (out .entry))) r (now (out .exit)) ⌝ }
 {
     move3(Move::FlipColumn(i), a, out)
 }
@@ -183,25 +184,25 @@ pub extern "C" fn zanikory_mat3_flip_column(i: usize, a: &[f64], out: &mut [f64]
 pub extern "C" fn zanikory_mat3_index_mut(
     row: usize,
     column: usize,
-    x: f64,
-    a: &[f64],
-    out: &mut [f64],
+    x: Real,
+    a: &[Real],
+    out: &mut [Real],
 ) -> u8
-    ensures { λ r. ⌜ Outcome (movedOf binary64 3 (Move.Write row column x) (now (a .entry)) (now (out .entry))) r (now (out .exit)) ⌝ }
+    ensures { λ r. ⌜ Outcome (movedOf F 3 (Move.Write row column x) (now (a .entry)) (now (out .entry))) r (now (out .exit)) ⌝ }
 {
     move3(Move::Write(row, column, x), a, out)
 }
 
 #[no_mangle]
-pub extern "C" fn zanikory_mat3_set_identity(a: &[f64], out: &mut [f64]) -> u8
-    ensures { λ r. ⌜ Outcome (movedOf binary64 3 Move.Identity (now (a .entry)) (now (out .entry))) r (now (out .exit)) ⌝ }
+pub extern "C" fn zanikory_mat3_set_identity(a: &[Real], out: &mut [Real]) -> u8
+    ensures { λ r. ⌜ Outcome (movedOf F 3 Move.Identity (now (a .entry)) (now (out .entry))) r (now (out .exit)) ⌝ }
 {
     move3(Move::Identity, a, out)
 }
 
 #[no_mangle]
-pub extern "C" fn zanikory_mat2_index(row: usize, column: usize, a: &[f64], out: &mut [f64]) -> u8
-    ensures { λ r. ⌜ Outcome (squareReadOf binary64 2 row column (now (a .entry)) (now (out .entry))) r (now (out .exit)) ⌝ }
+pub extern "C" fn zanikory_mat2_index(row: usize, column: usize, a: &[Real], out: &mut [Real]) -> u8
+    ensures { λ r. ⌜ Outcome (squareReadOf F 2 row column (now (a .entry)) (now (out .entry))) r (now (out .exit)) ⌝ }
 {
     if out.len() != 1 {
         return OUTPUT_LENGTH;
@@ -213,8 +214,8 @@ pub extern "C" fn zanikory_mat2_index(row: usize, column: usize, a: &[f64], out:
 }
 
 #[no_mangle]
-pub extern "C" fn zanikory_mat3_index(row: usize, column: usize, a: &[f64], out: &mut [f64]) -> u8
-    ensures { λ r. ⌜ Outcome (squareReadOf binary64 3 row column (now (a .entry)) (now (out .entry))) r (now (out .exit)) ⌝ }
+pub extern "C" fn zanikory_mat3_index(row: usize, column: usize, a: &[Real], out: &mut [Real]) -> u8
+    ensures { λ r. ⌜ Outcome (squareReadOf F 3 row column (now (a .entry)) (now (out .entry))) r (now (out .exit)) ⌝ }
 {
     if out.len() != 1 {
         return OUTPUT_LENGTH;
@@ -226,8 +227,8 @@ pub extern "C" fn zanikory_mat3_index(row: usize, column: usize, a: &[f64], out:
 }
 
 #[no_mangle]
-pub extern "C" fn zanikory_sym2_index(row: usize, column: usize, a: &[f64], out: &mut [f64]) -> u8
-    ensures { λ r. ⌜ Outcome (packedReadOf binary64 2 row column (now (a .entry)) (now (out .entry))) r (now (out .exit)) ⌝ }
+pub extern "C" fn zanikory_sym2_index(row: usize, column: usize, a: &[Real], out: &mut [Real]) -> u8
+    ensures { λ r. ⌜ Outcome (packedReadOf F 2 row column (now (a .entry)) (now (out .entry))) r (now (out .exit)) ⌝ }
 {
     if out.len() != 1 {
         return OUTPUT_LENGTH;
@@ -239,8 +240,8 @@ pub extern "C" fn zanikory_sym2_index(row: usize, column: usize, a: &[f64], out:
 }
 
 #[no_mangle]
-pub extern "C" fn zanikory_sym3_index(row: usize, column: usize, a: &[f64], out: &mut [f64]) -> u8
-    ensures { λ r. ⌜ Outcome (packedReadOf binary64 3 row column (now (a .entry)) (now (out .entry))) r (now (out .exit)) ⌝ }
+pub extern "C" fn zanikory_sym3_index(row: usize, column: usize, a: &[Real], out: &mut [Real]) -> u8
+    ensures { λ r. ⌜ Outcome (packedReadOf F 3 row column (now (a .entry)) (now (out .entry))) r (now (out .exit)) ⌝ }
 {
     if out.len() != 1 {
         return OUTPUT_LENGTH;
@@ -256,9 +257,9 @@ pub extern "C" fn zanikory_sym3_index(row: usize, column: usize, a: &[f64], out:
 pub extern "C" fn zanikory_sym2_index_mut(
     row: usize,
     column: usize,
-    x: f64,
-    a: &[f64],
-    out: &mut [f64],
+    x: Real,
+    a: &[Real],
+    out: &mut [Real],
 ) -> u8
     ensures { λ r. ⌜ Outcome (packedWriteOf 2 row column x (now (a .entry)) (now (out .entry))) r (now (out .exit)) ⌝ }
 {
@@ -281,9 +282,9 @@ pub extern "C" fn zanikory_sym2_index_mut(
 pub extern "C" fn zanikory_sym3_index_mut(
     row: usize,
     column: usize,
-    x: f64,
-    a: &[f64],
-    out: &mut [f64],
+    x: Real,
+    a: &[Real],
+    out: &mut [Real],
 ) -> u8
     ensures { λ r. ⌜ Outcome (packedWriteOf 3 row column x (now (a .entry)) (now (out .entry))) r (now (out .exit)) ⌝ }
 {

@@ -1,4 +1,5 @@
-// Numbers from a lent slice into a matrix, and into a lent slice.
+// Numbers from a lent slice into a matrix, and into a lent slice. Real is f64 (float::width).
+use float::width::Real;
 use matrix::square::Mat2;
 use matrix::square::Mat3;
 use matrix::symmetric::Sym2;
@@ -11,7 +12,7 @@ ghost use Rattle.matrix.specs.Square.{mat2, mat3};
 ghost use Rattle.matrix.specs.Symmetric.{sym2, sym3};
 
 // The numbers stand from `at` on, behind what stood before.
-pub(crate) fn put_at(out: &mut [f64], at: usize, numbers: &[f64])
+pub(crate) fn put_at(out: &mut [Real], at: usize, numbers: &[Real])
     requires { ⌜ at + length (now numbers) ≤ length (now out) ⌝ }
     ensures { λ _. ⌜ take (at + length (now (numbers .entry))) (now (out .exit)) ≡ take at (now (out .entry)) ++ now (numbers .entry) ⌝ }
 {
@@ -23,14 +24,14 @@ pub(crate) fn put_at(out: &mut [f64], at: usize, numbers: &[f64])
 }
 
 // Three numbers, or those of a matrix, from `at` on.
-pub(crate) fn put_three(out: &mut [f64], at: usize, numbers: [f64; 3])
+pub(crate) fn put_three(out: &mut [Real], at: usize, numbers: [Real; 3])
     requires { ⌜ at + 3 ≤ length (now out) ⌝ }
     ensures { λ _. ⌜ take (at + 3) (now (out .exit)) ≡ take at (now (out .entry)) ++ numbers ⌝ }
 {
     put_at(out, at, &numbers);
 }
 
-pub(crate) fn put_sym3(out: &mut [f64], at: usize, m: Sym3)
+pub(crate) fn put_sym3(out: &mut [Real], at: usize, m: Sym3)
     requires { ⌜ at + 6 ≤ length (now out) ⌝ }
     ensures { λ _. ⌜ take (at + 6) (now (out .exit)) ≡ take at (now (out .entry)) ++ m .«data» ⌝ }
 {
@@ -38,7 +39,7 @@ pub(crate) fn put_sym3(out: &mut [f64], at: usize, m: Sym3)
     put_at(out, at, &d);
 }
 
-pub(crate) fn put_mat3(out: &mut [f64], at: usize, m: Mat3)
+pub(crate) fn put_mat3(out: &mut [Real], at: usize, m: Mat3)
     requires { ⌜ at + 9 ≤ length (now out) ⌝ }
     ensures { λ _. ⌜ take (at + 9) (now (out .exit)) ≡ take at (now (out .entry)) ++ m .«data» ⌝ }
 {
@@ -47,14 +48,14 @@ pub(crate) fn put_mat3(out: &mut [f64], at: usize, m: Mat3)
 }
 
 // All of out takes the numbers.
-pub(crate) fn put(out: &mut [f64], numbers: &[f64])
+pub(crate) fn put(out: &mut [Real], numbers: &[Real])
     requires { ⌜ length (now out) ≡ length (now numbers) ⌝ }
     ensures { λ _. ⌜ now (out .exit) ≡ now (numbers .entry) ⌝ }
 {
     put_at(out, 0, numbers);
 }
 
-pub(crate) fn mat2_of(a: &[f64]) -> Mat2
+pub(crate) fn mat2_of(a: &[Real]) -> Mat2
     requires { ⌜ length (now a) ≡ 4 ⌝ }
     ensures { λ r. ⌜ r ≡ mat2 (now (a .entry)) ⌝ }
 {
@@ -63,7 +64,7 @@ pub(crate) fn mat2_of(a: &[f64]) -> Mat2
     Mat2 { data: d }
 }
 
-pub(crate) fn mat3_of(a: &[f64]) -> Mat3
+pub(crate) fn mat3_of(a: &[Real]) -> Mat3
     requires { ⌜ length (now a) ≡ 9 ⌝ }
     ensures { λ r. ⌜ r ≡ mat3 (now (a .entry)) ⌝ }
 {
@@ -72,7 +73,7 @@ pub(crate) fn mat3_of(a: &[f64]) -> Mat3
     Mat3 { data: d }
 }
 
-pub(crate) fn sym2_of(a: &[f64]) -> Sym2
+pub(crate) fn sym2_of(a: &[Real]) -> Sym2
     requires { ⌜ length (now a) ≡ 3 ⌝ }
     ensures { λ r. ⌜ r ≡ sym2 (now (a .entry)) ⌝ }
 {
@@ -81,7 +82,7 @@ pub(crate) fn sym2_of(a: &[f64]) -> Sym2
     Sym2 { data: d }
 }
 
-pub(crate) fn sym3_of(a: &[f64]) -> Sym3
+pub(crate) fn sym3_of(a: &[Real]) -> Sym3
     requires { ⌜ length (now a) ≡ 6 ⌝ }
     ensures { λ r. ⌜ r ≡ sym3 (now (a .entry)) ⌝ }
 {

@@ -1,46 +1,55 @@
-// The correctly rounded root, digit by digit from the bits.
+// The correctly rounded root, digit by digit from the bits. Real is f64 (float::width).
 //
-// A finite x above 0 is m * 2^e. With e halved downwards and the odd bit folded into m, the root of x is that of m at half
-// the exponent. m is scaled by fours to 53 or 54 digits, so that the whole root q of m * 2^52 has the 53 digits of a double,
-// and what is left of m * 2^52 beyond q's square says whether the next double up is nearer.
-use crate::bits::INFINITY;
-use crate::bits::NAN;
-use crate::bits::SIGN;
+// A finite x above 0 is m * 2^e, which is m * 2^DIGITS at the exponent e - DIGITS. With that exponent halved downwards and the odd bit
+// folded into m, the root of x is that of m * 2^DIGITS at half the exponent. m is scaled by fours to PRECISION digits or one more, so
+// that the whole root q of m * 2^DIGITS has the PRECISION digits of a number, and what is left beyond q's square says whether the
+// next number up is nearer. LOWEST - DIGITS is even, so the halves need no case for a lowest exponent that is odd.
 use crate::bits::of_bits;
 use crate::bits::to_bits;
 use crate::parts::halved;
 use crate::parts::is_odd;
 use crate::parts::parts_of;
+use crate::width::Bits;
+use crate::width::DIGITS;
+use crate::width::Exponent;
+use crate::width::INFINITY;
+use crate::width::LEADING;
+use crate::width::LOWEST;
+use crate::width::NAN;
+use crate::width::PRECISION;
+use crate::width::Real;
+use crate::width::SIGN;
 ghost use mathlib.Core.Path.{_≡_};
 ghost use mathlib.Core.Bool.{_&&_};
-ghost use Prim.Native.Nat.{_*_, _<_, _^_};
+ghost use Prim.Native.Nat.{_-_, _*_, _/_, _<_};
 ghost use lib.IntN.{pos, negsuc, _+ℤ_};
 ghost use lib.Signed.{leZ};
 ghost use lib.Dec.{T};
-ghost use lib.Ieee.{binary64};
+ghost use lib.Ieee.{prec, low, hid, ones};
+ghost use Rattle.float.specs.Width.{F};
 ghost use Rattle.float.specs.Root.{rootBitsOf};
 ghost use Rattle.float.specs.Digits.{WholeRoot, ScaledUp};
 ghost use Rattle.float.specs.Nearest.{RootPromise, RootPattern};
 
 // A whole root and what is left beyond its square.
 pub struct Whole {
-    pub q: u64,
-    pub left: u64,
+    pub q: Bits,
+    pub left: Bits,
 }
 
-// The whole root of m * 2^52, one binary digit a turn: `left` takes the next two digits of m * 2^52, of which `rest` holds
+// The whole root of m * 2^DIGITS, one binary digit a turn: `left` takes the next two digits of m * 2^DIGITS, of which `rest` holds
 // those still to come, and the digit is 1 where the square of 2q + 1 still fits.
-fn whole_root(m: u64) -> Whole
-    requires { ⌜ m < 2 ^ 54 ⌝ }
-    ensures { λ r. ⌜ WholeRoot (m * 2 ^ 52) 53 (r .q) (r .left) ⌝ }
+fn whole_root(m: Bits) -> Whole
+    requires { ⌜ m < 4 * hid F ⌝ }
+    ensures { λ r. ⌜ WholeRoot (m * hid F) (prec F) (r .q) (r .left) ⌝ }
 {
     let mut rest = m;
-    let mut q: u64 = 0;
-    let mut left: u64 = 0;
-    let mut i: u64 = 0;
-    while i < 53 {
-        left = left * 4 + rest / 0x10_0000_0000_0000;
-        rest = rest % 0x10_0000_0000_0000 * 4;
+    let mut q: Bits = 0;
+    let mut left: Bits = 0;
+    let mut i: Bits = 0;
+    while i < PRECISION {
+        left = left * 4 + rest / LEADING;
+        rest = rest % LEADING * 4;
         let odd = q * 4 + 1;
         q = q * 2;
         if odd <= left {
@@ -52,19 +61,19 @@ fn whole_root(m: u64) -> Whole
     Whole { q, left }
 }
 
-// m * 4^j, with j such that it has 53 or 54 digits.
+// m * 4^j, with j such that it has PRECISION digits or one more.
 pub struct Scaled {
-    pub m: u64,
-    pub j: u64,
+    pub m: Bits,
+    pub j: Bits,
 }
 
-fn scaled_up(m: u64) -> Scaled
-    requires { ⌜ (0 < m) × (m < 2 ^ 54) ⌝ }
-    ensures { λ r. ⌜ ScaledUp m 52 26 (r .m) (r .j) ⌝ }
+fn scaled_up(m: Bits) -> Scaled
+    requires { ⌜ (0 < m) × (m < 4 * hid F) ⌝ }
+    ensures { λ r. ⌜ ScaledUp m (prec F - 1) (prec F / 2) (r .m) (r .j) ⌝ }
 {
     let mut n = m;
-    let mut j: u64 = 0;
-    while n < 0x10_0000_0000_0000 {
+    let mut j: Bits = 0;
+    while n < LEADING {
         n = n * 4;
         j += 1;
     }
@@ -72,20 +81,20 @@ fn scaled_up(m: u64) -> Scaled
 }
 
 // The exponent's field for a halved exponent h, before the scaling by 4^j is taken off it.
-fn biased(h: i64) -> u64
-    requires { ⌜ T (leZ (negsuc 536) h && leZ h (pos 1000)) ⌝ }
-    ensures { λ r. ⌜ pos r ≡ h +ℤ pos 1048 ⌝ }
+fn biased(h: Exponent) -> Bits
+    requires { ⌜ T (leZ (negsuc (low F - 1)) h && leZ h (pos 1000)) ⌝ }
+    ensures { λ r. ⌜ pos r ≡ h +ℤ pos (low F) ⌝ }
 {
-    (h + 1048) as u64
+    (h - LOWEST) as Bits
 }
 
 // The pattern of the root of the finite number above 0 that b is the pattern of.
-fn root_pattern(b: u64) -> u64
-    requires { ⌜ (0 < b) × (b < 0x7ff0_0000_0000_0000) ⌝ }
-    ensures { λ r. ⌜ RootPattern binary64 b r ⌝ }
+fn root_pattern(b: Bits) -> Bits
+    requires { ⌜ (0 < b) × (b < ones F * hid F) ⌝ }
+    ensures { λ r. ⌜ RootPattern F b r ⌝ }
 {
     let p = parts_of(b);
-    let e = p.e;
+    let e = p.e - DIGITS;
     let h = halved(e);
     let mut m = p.m;
     if is_odd(e) {
@@ -97,12 +106,12 @@ fn root_pattern(b: u64) -> u64
     if w.left > w.q {
         q = q + 1;
     }
-    (biased(h) - s.j) * 0x10_0000_0000_0000 + q
+    (biased(h) - s.j) * LEADING + q
 }
 
 // The root on patterns: zeros keep their sign, +infinity stays, negative numbers and NaNs give NAN.
-pub fn root_bits(b: u64) -> u64
-    ensures { λ r. ⌜ r ≡ rootBitsOf binary64 b ⌝ }
+pub fn root_bits(b: Bits) -> Bits
+    ensures { λ r. ⌜ r ≡ rootBitsOf F b ⌝ }
 {
     if b % SIGN == 0 {
         return b;
@@ -116,9 +125,9 @@ pub fn root_bits(b: u64) -> u64
     root_pattern(b)
 }
 
-// The root of x: the nearest double to the exact one.
-pub fn root(x: f64) -> f64
-    ensures { λ r. ⌜ RootPromise binary64 x r ⌝ }
+// The root of x: the nearest number to the exact one.
+pub fn root(x: Real) -> Real
+    ensures { λ r. ⌜ RootPromise F x r ⌝ }
 {
     of_bits(root_bits(to_bits(x)))
 }

@@ -1,4 +1,4 @@
-// Each kind's numbers handed to its kernel, and the kernel's answer as a record has it.
+// Each kind's numbers handed to its kernel, and the kernel's answer as a record has it. Real is f64 (float::width).
 use cholesky::cholesky2x2::Factor2;
 use cholesky::cholesky2x2::Solved2;
 use cholesky::cholesky2x2::cholesky_2x2_explicit_factor;
@@ -8,6 +8,7 @@ use cholesky::cholesky3x3::cholesky_3x3_explicit_factor;
 use eigen::eigen2x2::Eigen2;
 use eigen::eigen3x3::Eigen3;
 use eigen::eigen3x3::eigen_jacobi;
+use float::width::Real;
 use matrix::codes::DONE;
 use matrix::codes::UNKNOWN_KIND;
 use matrix::square::Mat2;
@@ -17,7 +18,7 @@ use matrix::symmetric::Sym3;
 use svd::svd2x2::Svd2;
 use svd::svd3x3::Svd3;
 ghost use mathlib.Core.Path.{_≡_};
-ghost use lib.Ieee.{binary64};
+ghost use Rattle.float.specs.Width.{F};
 ghost use Rattle.matrix.specs.Square.{mat2, mat3};
 ghost use Rattle.matrix.specs.Symmetric.{sym2, sym3};
 ghost use Rattle.cholesky.specs.Factor.{ofFactor2, ofFactor3};
@@ -33,9 +34,9 @@ pub struct Worked {
     pub code: u8,
     pub count: u8,
     pub settled: u8,
-    pub values: [f64; 3],
-    pub left: [f64; 9],
-    pub right: [f64; 9],
+    pub values: [Real; 3],
+    pub left: [Real; 9],
+    pub right: [Real; 9],
 }
 
 fn mark(settled: bool) -> u8
@@ -52,7 +53,7 @@ fn done_mark(code: u8) -> u8
 
 // Only a code and a pivot's number.
 pub fn refused(code: u8, pivot: u8) -> Worked
-    ensures { λ w. ⌜ w ≡ worked (refusedKind binary64 code pivot) ⌝ }
+    ensures { λ w. ⌜ w ≡ worked (refusedKind F code pivot) ⌝ }
 {
     Worked {
         code,
@@ -65,22 +66,22 @@ pub fn refused(code: u8, pivot: u8) -> Worked
 }
 
 // The four numbers of a 2x2 in the first places of nine.
-fn spread4(m: Mat2) -> [f64; 9]
-    ensures { λ r. ⌜ r ≡ padded binary64 9 4 (m .«data») ⌝ }
+fn spread4(m: Mat2) -> [Real; 9]
+    ensures { λ r. ⌜ r ≡ padded F 9 4 (m .«data») ⌝ }
 {
     let d = m.data;
     [d[0], d[1], d[2], d[3], 0.0, 0.0, 0.0, 0.0, 0.0]
 }
 
-fn all9(m: Mat3) -> [f64; 9]
-    ensures { λ r. ⌜ r ≡ padded binary64 9 9 (m .«data») ⌝ }
+fn all9(m: Mat3) -> [Real; 9]
+    ensures { λ r. ⌜ r ≡ padded F 9 9 (m .«data») ⌝ }
 {
     let d = m.data;
     [d[0], d[1], d[2], d[3], d[4], d[5], d[6], d[7], d[8]]
 }
 
 fn from_eigen2(r: Eigen2) -> Worked
-    ensures { λ w. ⌜ w ≡ worked (fromEigen2 binary64 (ofEigen2 r)) ⌝ }
+    ensures { λ w. ⌜ w ≡ worked (fromEigen2 F (ofEigen2 r)) ⌝ }
 {
     let v = r.values;
     let m = r.vectors;
@@ -96,7 +97,7 @@ fn from_eigen2(r: Eigen2) -> Worked
 }
 
 fn from_eigen3(r: Eigen3) -> Worked
-    ensures { λ w. ⌜ w ≡ worked (fromEigen3 binary64 (ofEigen3 r)) ⌝ }
+    ensures { λ w. ⌜ w ≡ worked (fromEigen3 F (ofEigen3 r)) ⌝ }
 {
     let v = r.values;
     let m = r.vectors;
@@ -112,7 +113,7 @@ fn from_eigen3(r: Eigen3) -> Worked
 }
 
 fn from_svd2(r: Svd2) -> Worked
-    ensures { λ w. ⌜ w ≡ worked (fromSvd2 binary64 (ofSvd2 r)) ⌝ }
+    ensures { λ w. ⌜ w ≡ worked (fromSvd2 F (ofSvd2 r)) ⌝ }
 {
     let s = r.values;
     let u = r.u;
@@ -130,7 +131,7 @@ fn from_svd2(r: Svd2) -> Worked
 }
 
 fn from_svd3(r: Svd3) -> Worked
-    ensures { λ w. ⌜ w ≡ worked (fromSvd3 binary64 (ofSvd3 r)) ⌝ }
+    ensures { λ w. ⌜ w ≡ worked (fromSvd3 F (ofSvd3 r)) ⌝ }
 {
     let s = r.values;
     let u = r.u;
@@ -147,8 +148,8 @@ fn from_svd3(r: Svd3) -> Worked
     }
 }
 
-fn whole_factor(left: [f64; 9]) -> Worked
-    ensures { λ w. ⌜ w ≡ worked (wholeFactor binary64 left) ⌝ }
+fn whole_factor(left: [Real; 9]) -> Worked
+    ensures { λ w. ⌜ w ≡ worked (wholeFactor F left) ⌝ }
 {
     Worked {
         code: DONE,
@@ -162,7 +163,7 @@ fn whole_factor(left: [f64; 9]) -> Worked
 
 // On refusal the early writes are no answer.
 fn from_factor2(r: Factor2) -> Worked
-    ensures { λ w. ⌜ w ≡ worked (fromFactor binary64 3 (ofFactor2 r)) ⌝ }
+    ensures { λ w. ⌜ w ≡ worked (fromFactor F 3 (ofFactor2 r)) ⌝ }
 {
     let code = r.code;
     let l = r.factor;
@@ -174,7 +175,7 @@ fn from_factor2(r: Factor2) -> Worked
 }
 
 fn from_factor3(r: Factor3) -> Worked
-    ensures { λ w. ⌜ w ≡ worked (fromFactor binary64 6 (ofFactor3 r)) ⌝ }
+    ensures { λ w. ⌜ w ≡ worked (fromFactor F 6 (ofFactor3 r)) ⌝ }
 {
     let code = r.code;
     let l = r.factor;
@@ -186,7 +187,7 @@ fn from_factor3(r: Factor3) -> Worked
 }
 
 fn from_solved2(r: Solved2) -> Worked
-    ensures { λ w. ⌜ w ≡ worked (fromSolved binary64 3 2 (ofSolved2 r)) ⌝ }
+    ensures { λ w. ⌜ w ≡ worked (fromSolved F 3 2 (ofSolved2 r)) ⌝ }
 {
     let x = r.solution;
     let l = r.factor;
@@ -202,7 +203,7 @@ fn from_solved2(r: Solved2) -> Worked
 }
 
 fn from_solved3(r: Solved3) -> Worked
-    ensures { λ w. ⌜ w ≡ worked (fromSolved binary64 6 3 (ofSolved3 r)) ⌝ }
+    ensures { λ w. ⌜ w ≡ worked (fromSolved F 6 3 (ofSolved3 r)) ⌝ }
 {
     let x = r.solution;
     let l = r.factor;
@@ -217,7 +218,7 @@ fn from_solved3(r: Solved3) -> Worked
     }
 }
 
-fn sym2(a: [f64; 9]) -> Sym2
+fn sym2(a: [Real; 9]) -> Sym2
     ensures { λ r. ⌜ r ≡ sym2 (firstOf 3 a) ⌝ }
 {
     Sym2 {
@@ -225,7 +226,7 @@ fn sym2(a: [f64; 9]) -> Sym2
     }
 }
 
-fn sym3(a: [f64; 9]) -> Sym3
+fn sym3(a: [Real; 9]) -> Sym3
     ensures { λ r. ⌜ r ≡ sym3 (firstOf 6 a) ⌝ }
 {
     Sym3 {
@@ -233,7 +234,7 @@ fn sym3(a: [f64; 9]) -> Sym3
     }
 }
 
-fn mat2(a: [f64; 9]) -> Mat2
+fn mat2(a: [Real; 9]) -> Mat2
     ensures { λ r. ⌜ r ≡ mat2 (firstOf 4 a) ⌝ }
 {
     Mat2 {
@@ -241,7 +242,7 @@ fn mat2(a: [f64; 9]) -> Mat2
     }
 }
 
-fn mat3(a: [f64; 9]) -> Mat3
+fn mat3(a: [Real; 9]) -> Mat3
     ensures { λ r. ⌜ r ≡ mat3 (firstOf 9 a) ⌝ }
 {
     Mat3 {
@@ -250,8 +251,8 @@ fn mat3(a: [f64; 9]) -> Mat3
 }
 
 // The answer of a kind to its numbers; 3 for a kind that is none.
-pub fn work(kind: u8, nine: [f64; 9], three: [f64; 3]) -> Worked
-    ensures { λ w. ⌜ w ≡ worked (workOf binary64 kind nine three) ⌝ }
+pub fn work(kind: u8, nine: [Real; 9], three: [Real; 3]) -> Worked
+    ensures { λ w. ⌜ w ≡ worked (workOf F kind nine three) ⌝ }
 {
     match kind {
         1 => from_eigen2(eigen::eigen2x2::eigen(sym2(nine))),

@@ -1,8 +1,8 @@
 -- The machine value of each type that the walks pass, and the answer that all three functions promise. Definitions only.
 use mir.Val.{Val}
-use lib.Ieee.{binary64}
 use denote.Struct.Laws as struct
 use denote.Enum.Laws as enum
+use Rattle.float.specs.Width.{F}
 use Rattle.matrix.specs.Symmetric.{sym3Answer}
 use Rattle.matrix.specs.declared.symmetric.Sym3.{Sym3}
 use Rattle.matrix.specs.declared.symmetric.Sym3Answer.{Sym3Answer}
@@ -34,4 +34,4 @@ uv = struct.val U.the-type U′.the-laws
 
 -- what the definition gives for a matrix
 abbrev pub answered : Sym3 → Pair → Rotation → Sym3Answer
-answered a p r = sym3Answer (rotatedOf binary64 p (turn r) (a .«data»))
+answered a p r = sym3Answer (rotatedOf F p (turn r) (a .«data»))

@@ -9,14 +9,14 @@ use matrix::codes::INPUT_NOT_FINITE;
 use matrix::symmetric::Sym3;
 use matrix::symmetric::Sym3Answer;
 ghost use mathlib.Core.Path.{_≡_};
-ghost use lib.Ieee.{binary64};
+ghost use Rattle.float.specs.Width.{F};
 ghost use Rattle.matrix.specs.Symmetric.{sym3Answer};
 ghost use Rattle.eigen.specs.Rotation.{turn};
 ghost use Rattle.lent.specs.InPlace.{rotatedOf, Left};
 
 // The code and the matrix that is to stand afterwards, the old one on refusal.
 fn rotated(a: Sym3, p: Pair, r: Rotation) -> Sym3Answer
-    ensures { λ w. ⌜ w ≡ sym3Answer (rotatedOf binary64 p (turn r) (a .«data»)) ⌝ }
+    ensures { λ w. ⌜ w ≡ sym3Answer (rotatedOf F p (turn r) (a .«data»)) ⌝ }
 {
     let d = a.data;
     if !all_finite(&d) {
@@ -48,7 +48,7 @@ fn rotated(a: Sym3, p: Pair, r: Rotation) -> Sym3Answer
 
 // Rotates the pair of the lent matrix. The old matrix is stored on refusal too, so that no branch is walked by hand.
 pub fn rotate_in_place(a: &mut Sym3, p: Pair, r: Rotation) -> u8
-    ensures { λ code. ⌜ Left (rotatedOf binary64 p (turn r) (now (a .entry) .«data»)) code (now (a .exit)) ⌝ }
+    ensures { λ code. ⌜ Left (rotatedOf F p (turn r) (now (a .entry) .«data»)) code (now (a .exit)) ⌝ }
 {
     let m = *a;
     let w = rotated(m, p, r);
@@ -58,7 +58,7 @@ pub fn rotate_in_place(a: &mut Sym3, p: Pair, r: Rotation) -> u8
 
 // The same on a copy, which it lends: a caller that lends a matrix itself has to be proved by hand, and one that calls this has not.
 pub fn rotate(a: Sym3, p: Pair, r: Rotation) -> Sym3Answer
-    ensures { λ w. ⌜ w ≡ sym3Answer (rotatedOf binary64 p (turn r) (a .«data»)) ⌝ }
+    ensures { λ w. ⌜ w ≡ sym3Answer (rotatedOf F p (turn r) (a .«data»)) ⌝ }
 {
     let mut m = a;
     let code = rotate_in_place(&mut m, p, r);

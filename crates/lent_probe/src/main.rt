@@ -1,4 +1,4 @@
-// Rotates matrices through the lent entry, so that it is run as well as proved.
+// Rotates matrices through the lent entry, so that it is run as well as proved. Real is f64 (float::width).
 //
 // Standard input has items of ten words, each of eight bytes, the lowest first: the pair as 12, 13 or 23, then c, s and t, then the matrix.
 // A line answers each: the code, and the bits of the matrix as it was left. A part of an item at the end is dropped.
@@ -6,6 +6,7 @@ use eigen::pairs::Pair;
 use eigen::rotation::Rotation;
 use float::bits::of_bits;
 use float::bits::to_bits;
+use float::width::Real;
 use libc::STDIN_FILENO;
 use libc::STDOUT_FILENO;
 use matrix::symmetric::Sym3;
@@ -32,7 +33,7 @@ fn word(item: &[u8; 80], at: usize) -> u64
         + 72057594037927936 * wide(item[at + 7])
 }
 
-fn number(item: &[u8; 80], at: usize) -> f64
+fn number(item: &[u8; 80], at: usize) -> Real
     requires { ⌜ at + 8 ≤ 80 ⌝ }
 {
     of_bits(word(item, at))
@@ -67,7 +68,7 @@ fn matrix_of(item: &[u8; 80]) -> Sym3 {
     }
 }
 
-fn show_number(x: f64) {
+fn show_number(x: Real) {
     io::write_all(STDOUT_FILENO, b" ");
     io::print_hex(STDOUT_FILENO, to_bits(x), 16);
 }

@@ -1,8 +1,9 @@
 -- Any two answers within the promise of a public function are equal. Each promise is read from the source, as a caller reads it. Assumes nothing.
 use mathlib.Core.List.{List}
 use Prim.Native.Nat.{ℕ}
-use lib.Ieee.{Float, binary64}
+use lib.Ieee.{Float}
 use contract.Lifetimes.{Lfts}
+use Rattle.float.specs.Width.{F}
 use Rattle.float.specs.OneAnswer.{OneAnswer, OneOutcome}
 use Rattle.float.proofs.OneAnswer.{named, both-named}
 use Rattle.matrix.specs.declared.answers.Entry.{Entry}
@@ -81,7 +82,7 @@ use Rattle.matrix.proofs.symmetric.Sym3.norm_fro.Reads as sym3-norm-fro
 -- ---- answers that hold no matrix
 
 pub one-judge : (x : Float) → OneAnswer (λ (r : Scalar). judge.Post tt (x, tt) r (x, tt))
-one-judge x = named-scalar binary64 _
+one-judge x = named-scalar F _
 
 pub one-refuse2 : (code : ℕ) → OneAnswer (λ (r : Numbers2). refuse2.Post tt (code, tt) r (code, tt))
 one-refuse2 code = named _
@@ -116,7 +117,7 @@ pub one-mat2-index-linear : (m : Mat2) (row column : ℕ) → OneAnswer (λ (r :
 one-mat2-index-linear m row column = named-place _
 
 pub one-mat2-index : (m : Mat2) (row column : ℕ) → OneAnswer (λ (r : Entry). mat2-index.Post tt (m, (row, (column, tt))) r (m, (row, (column, tt))))
-one-mat2-index m row column = named-entry binary64 _
+one-mat2-index m row column = named-entry F _
 
 pub one-mat2-index-mut : (m : Mat2) (row column : ℕ) (x : Float) → OneAnswer (λ (r : Mat2Answer). mat2-index-mut.Post tt (m, (row, (column, (x, tt)))) r (m, (row, (column, (x, tt)))))
 one-mat2-index-mut m row column x = named _
@@ -158,7 +159,7 @@ pub one-mat3-index-linear : (m : Mat3) (row column : ℕ) → OneAnswer (λ (r :
 one-mat3-index-linear m row column = named-place _
 
 pub one-mat3-index : (m : Mat3) (row column : ℕ) → OneAnswer (λ (r : Entry). mat3-index.Post tt (m, (row, (column, tt))) r (m, (row, (column, tt))))
-one-mat3-index m row column = named-entry binary64 _
+one-mat3-index m row column = named-entry F _
 
 pub one-mat3-index-mut : (m : Mat3) (row column : ℕ) (x : Float) → OneAnswer (λ (r : Mat3Answer). mat3-index-mut.Post tt (m, (row, (column, (x, tt)))) r (m, (row, (column, (x, tt)))))
 one-mat3-index-mut m row column x = named _
@@ -211,7 +212,7 @@ pub one-sym2-index-linear : (m : Sym2) (row column : ℕ) → OneAnswer (λ (r :
 one-sym2-index-linear m row column = named-place _
 
 pub one-sym2-index : (m : Sym2) (row column : ℕ) → OneAnswer (λ (r : Entry). sym2-index.Post tt (m, (row, (column, tt))) r (m, (row, (column, tt))))
-one-sym2-index m row column = named-entry binary64 _
+one-sym2-index m row column = named-entry F _
 
 pub one-sym2-index-mut : (m : Sym2) (row column : ℕ) (x : Float) → OneAnswer (λ (r : Sym2Answer). sym2-index-mut.Post tt (m, (row, (column, (x, tt)))) r (m, (row, (column, (x, tt)))))
 one-sym2-index-mut m row column x = named _
@@ -235,7 +236,7 @@ pub one-sym3-index-linear : (m : Sym3) (row column : ℕ) → OneAnswer (λ (r :
 one-sym3-index-linear m row column = named-place _
 
 pub one-sym3-index : (m : Sym3) (row column : ℕ) → OneAnswer (λ (r : Entry). sym3-index.Post tt (m, (row, (column, tt))) r (m, (row, (column, tt))))
-one-sym3-index m row column = named-entry binary64 _
+one-sym3-index m row column = named-entry F _
 
 pub one-sym3-index-mut : (m : Sym3) (row column : ℕ) (x : Float) → OneAnswer (λ (r : Sym3Answer). sym3-index-mut.Post tt (m, (row, (column, (x, tt)))) r (m, (row, (column, (x, tt)))))
 one-sym3-index-mut m row column x = named _
@@ -252,7 +253,7 @@ pub one-sym3-mul : (κs : Lfts 2) (a : _) → OneOutcome (sym3-mul.Post κs a) (
 one-sym3-mul κs a = both-named _ _ (λ s. s .1 .0 .now)
 
 pub one-sym3-quad-form : (κs : Lfts 2) (a : _) (s : _) → OneAnswer (λ (r : Scalar). sym3-quad-form.Post κs a r s)
-one-sym3-quad-form κs a s = named-scalar binary64 _
+one-sym3-quad-form κs a s = named-scalar F _
 
 pub one-sym3-norm-fro : (m : Sym3) → OneAnswer (λ (r : Scalar). sym3-norm-fro.Post tt (m, tt) r (m, tt))
-one-sym3-norm-fro m = named-scalar binary64 _
+one-sym3-norm-fro m = named-scalar F _

@@ -1,11 +1,12 @@
-// Answers that hold no matrix: a place, a number, two or three numbers; and two or three numbers put into a lent slice.
+// Answers that hold no matrix: a place, a number, two or three numbers; and two or three numbers put into a lent slice. Real is f64 (float::width).
 use crate::codes::ANSWER_NOT_FINITE;
 use crate::codes::DONE;
 use crate::codes::OUTPUT_LENGTH;
 use float::sign::all_finite;
 use float::sign::is_finite;
+use float::width::Real;
 ghost use mathlib.Core.Path.{_≡_};
-ghost use lib.Ieee.{binary64};
+ghost use Rattle.float.specs.Width.{F};
 ghost use Rattle.matrix.specs.Answer.{Outcome, judged, judgedAll, refusedAll, putOf, numbers2, numbers3, ofNumbers2, ofNumbers3, scalar};
 
 // A place among the numbers of a matrix.
@@ -16,13 +17,13 @@ pub enum Place {
 
 // The number at a place.
 pub enum Entry {
-    Number(f64),
+    Number(Real),
     Outside,
 }
 
 // A number that was worked out, or why there is none.
 pub enum Scalar {
-    Number(f64),
+    Number(Real),
     InputLength,
     InputNotFinite,
     AnswerNotFinite,
@@ -30,17 +31,17 @@ pub enum Scalar {
 
 pub struct Numbers2 {
     pub code: u8,
-    pub values: [f64; 2],
+    pub values: [Real; 2],
 }
 
 pub struct Numbers3 {
     pub code: u8,
-    pub values: [f64; 3],
+    pub values: [Real; 3],
 }
 
 // A number that was worked out is handed on if it is finite.
-pub fn judge(x: f64) -> Scalar
-    ensures { λ r. ⌜ scalar binary64 r ≡ judged binary64 x ⌝ }
+pub fn judge(x: Real) -> Scalar
+    ensures { λ r. ⌜ scalar F r ≡ judged F x ⌝ }
 {
     if is_finite(x) {
         Scalar::Number(x)
@@ -50,7 +51,7 @@ pub fn judge(x: f64) -> Scalar
 }
 
 pub fn refuse2(code: u8) -> Numbers2
-    ensures { λ r. ⌜ r ≡ numbers2 (refusedAll binary64 2 code) ⌝ }
+    ensures { λ r. ⌜ r ≡ numbers2 (refusedAll F 2 code) ⌝ }
 {
     Numbers2 {
         code,
@@ -59,7 +60,7 @@ pub fn refuse2(code: u8) -> Numbers2
 }
 
 pub fn refuse3(code: u8) -> Numbers3
-    ensures { λ r. ⌜ r ≡ numbers3 (refusedAll binary64 3 code) ⌝ }
+    ensures { λ r. ⌜ r ≡ numbers3 (refusedAll F 3 code) ⌝ }
 {
     Numbers3 {
         code,
@@ -67,8 +68,8 @@ pub fn refuse3(code: u8) -> Numbers3
     }
 }
 
-pub fn judge2(values: [f64; 2]) -> Numbers2
-    ensures { λ r. ⌜ r ≡ numbers2 (judgedAll binary64 2 values) ⌝ }
+pub fn judge2(values: [Real; 2]) -> Numbers2
+    ensures { λ r. ⌜ r ≡ numbers2 (judgedAll F 2 values) ⌝ }
 {
     if all_finite(&values) {
         Numbers2 { code: DONE, values }
@@ -77,8 +78,8 @@ pub fn judge2(values: [f64; 2]) -> Numbers2
     }
 }
 
-pub fn judge3(values: [f64; 3]) -> Numbers3
-    ensures { λ r. ⌜ r ≡ numbers3 (judgedAll binary64 3 values) ⌝ }
+pub fn judge3(values: [Real; 3]) -> Numbers3
+    ensures { λ r. ⌜ r ≡ numbers3 (judgedAll F 3 values) ⌝ }
 {
     if all_finite(&values) {
         Numbers3 { code: DONE, values }
@@ -88,7 +89,7 @@ pub fn judge3(values: [f64; 3]) -> Numbers3
 }
 
 // The first places of a lent slice take the numbers, if there are any; what lies past them stays.
-pub fn put2(y: &mut [f64], p: Numbers2) -> u8
+pub fn put2(y: &mut [Real], p: Numbers2) -> u8
     ensures { λ r. ⌜ Outcome (putOf 2 (ofNumbers2 p) (now (y .entry))) r (now (y .exit)) ⌝ }
 {
     let v = p.values;
@@ -103,7 +104,7 @@ pub fn put2(y: &mut [f64], p: Numbers2) -> u8
     code
 }
 
-pub fn put3(y: &mut [f64], p: Numbers3) -> u8
+pub fn put3(y: &mut [Real], p: Numbers3) -> u8
     ensures { λ r. ⌜ Outcome (putOf 3 (ofNumbers3 p) (now (y .entry))) r (now (y .exit)) ⌝ }
 {
     let v = p.values;

@@ -1,4 +1,4 @@
-// What is computed with a symmetric 3x3 alone, in the crate's order of operations.
+// What is computed with a symmetric 3x3 alone, in the crate's order of operations. Real is f64 (float::width).
 use crate::answers::Numbers3;
 use crate::answers::Scalar;
 use crate::answers::judge;
@@ -11,21 +11,22 @@ use crate::codes::OUTPUT_LENGTH;
 use crate::symmetric::Sym3;
 use float::root::root;
 use float::sign::all_finite;
+use float::width::Real;
 ghost use mathlib.Core.Path.{_≡_};
-ghost use lib.Ieee.{binary64};
+ghost use Rattle.float.specs.Width.{F};
 ghost use Rattle.matrix.specs.Answer.{Outcome, scalar, numbers3};
 ghost use Rattle.matrix.specs.Symmetric.{rowOf, symTimesOf, symProductOf, symMulOf, quadOf, quadJudgedOf, quadFormOf, normOf, normFroOf};
 
 // a x0 + b x1 + c x2
-fn row(a: f64, b: f64, c: f64, x: [f64; 3]) -> f64
-    ensures { λ r. ⌜ r ≡ rowOf binary64 a b c x ⌝ }
+fn row(a: Real, b: Real, c: Real, x: [Real; 3]) -> Real
+    ensures { λ r. ⌜ r ≡ rowOf F a b c x ⌝ }
 {
     (a * x[0]) + (b * x[1]) + (c * x[2])
 }
 
 // H x
-fn times(h: Sym3, x: [f64; 3]) -> [f64; 3]
-    ensures { λ r. ⌜ r ≡ symTimesOf binary64 (h .«data») x ⌝ }
+fn times(h: Sym3, x: [Real; 3]) -> [Real; 3]
+    ensures { λ r. ⌜ r ≡ symTimesOf F (h .«data») x ⌝ }
 {
     let d = h.data;
     [
@@ -36,8 +37,8 @@ fn times(h: Sym3, x: [f64; 3]) -> [f64; 3]
 }
 
 // y' H x
-fn quad(h: Sym3, y: [f64; 3], x: [f64; 3]) -> f64
-    ensures { λ r. ⌜ r ≡ quadOf binary64 (h .«data») y x ⌝ }
+fn quad(h: Sym3, y: [Real; 3], x: [Real; 3]) -> Real
+    ensures { λ r. ⌜ r ≡ quadOf F (h .«data») y x ⌝ }
 {
     let d = h.data;
     let mut out = 0.0;
@@ -48,8 +49,8 @@ fn quad(h: Sym3, y: [f64; 3], x: [f64; 3]) -> f64
 }
 
 // The squares of all nine numbers, and their root.
-fn norm(h: Sym3) -> f64
-    ensures { λ r. ⌜ r ≡ normOf binary64 (h .«data») ⌝ }
+fn norm(h: Sym3) -> Real
+    ensures { λ r. ⌜ r ≡ normOf F (h .«data») ⌝ }
 {
     let d = h.data;
     let mut sumsq = 0.0;
@@ -59,8 +60,8 @@ fn norm(h: Sym3) -> f64
 }
 
 // y' H x, judged before and after.
-fn quad_judged(h: Sym3, y: [f64; 3], x: [f64; 3]) -> Scalar
-    ensures { λ r. ⌜ scalar binary64 r ≡ quadJudgedOf binary64 (h .«data») y x ⌝ }
+fn quad_judged(h: Sym3, y: [Real; 3], x: [Real; 3]) -> Scalar
+    ensures { λ r. ⌜ scalar F r ≡ quadJudgedOf F (h .«data») y x ⌝ }
 {
     let d = h.data;
     if !all_finite(&d) {
@@ -77,8 +78,8 @@ fn quad_judged(h: Sym3, y: [f64; 3], x: [f64; 3]) -> Scalar
 
 impl Sym3 {
     // H x, judged before and after.
-    fn product(self, x: [f64; 3]) -> Numbers3
-        ensures { λ r. ⌜ r ≡ numbers3 (symProductOf binary64 (self .«data») x) ⌝ }
+    fn product(self, x: [Real; 3]) -> Numbers3
+        ensures { λ r. ⌜ r ≡ numbers3 (symProductOf F (self .«data») x) ⌝ }
     {
         let d = self.data;
         if !all_finite(&d) {
@@ -91,8 +92,8 @@ impl Sym3 {
     }
 
     // y = H x, on the first three places of slices of three or more.
-    pub fn mul(self, y: &mut [f64], x: &[f64]) -> u8
-        ensures { λ r. ⌜ Outcome (symMulOf binary64 (self .«data») (now (x .entry)) (now (y .entry))) r (now (y .exit)) ⌝ }
+    pub fn mul(self, y: &mut [Real], x: &[Real]) -> u8
+        ensures { λ r. ⌜ Outcome (symMulOf F (self .«data») (now (x .entry)) (now (y .entry))) r (now (y .exit)) ⌝ }
     {
         if y.len() < 3 {
             return OUTPUT_LENGTH;
@@ -104,8 +105,8 @@ impl Sym3 {
     }
 
     // y' H x, on the first three places of slices of three or more.
-    pub fn quad_form(self, y: &[f64], x: &[f64]) -> Scalar
-        ensures { λ r. ⌜ scalar binary64 r ≡ quadFormOf binary64 (self .«data») (now (y .entry)) (now (x .entry)) ⌝ }
+    pub fn quad_form(self, y: &[Real], x: &[Real]) -> Scalar
+        ensures { λ r. ⌜ scalar F r ≡ quadFormOf F (self .«data») (now (y .entry)) (now (x .entry)) ⌝ }
     {
         if y.len() < 3 {
             return Scalar::InputLength;
@@ -117,7 +118,7 @@ impl Sym3 {
     }
 
     pub fn norm_fro(self) -> Scalar
-        ensures { λ r. ⌜ scalar binary64 r ≡ normFroOf binary64 (self .«data») ⌝ }
+        ensures { λ r. ⌜ scalar F r ≡ normFroOf F (self .«data») ⌝ }
     {
         let d = self.data;
         if !all_finite(&d) {

@@ -1,4 +1,4 @@
-// Square matrices of sizes 2 and 3, their numbers column by column.
+// Square matrices of sizes 2 and 3, their numbers column by column. Real is f64 (float::width).
 use crate::answers::Entry;
 use crate::answers::Numbers2;
 use crate::answers::Numbers3;
@@ -15,19 +15,20 @@ use crate::codes::INPUT_NOT_FINITE;
 use crate::codes::OUTPUT_LENGTH;
 use crate::codes::OUTSIDE;
 use float::sign::all_finite;
+use float::width::Real;
 ghost use mathlib.Core.Path.{_≡_};
 ghost use Prim.Native.Nat.{_≤_, _<_};
-ghost use lib.Ieee.{binary64};
+ghost use Rattle.float.specs.Width.{F};
 ghost use Rattle.matrix.specs.Answer.{Outcome, place, entry, zeros, numbers2, numbers3};
 ghost use Rattle.matrix.specs.Places.{squareIndex, indexOf, readOf, writeOf};
 ghost use Rattle.matrix.specs.Square.{mat2, mat3, mat2Answer, mat3Answer, identityOf, transposeOf, exchangeOf, negateOf, swapColumnsOf, flipColumnOf, timesOf, productOf, mulOf};
 
 pub struct Mat2 {
-    pub data: [f64; 4],
+    pub data: [Real; 4],
 }
 
 pub struct Mat3 {
-    pub data: [f64; 9],
+    pub data: [Real; 9],
 }
 
 pub struct Mat2Answer {
@@ -61,7 +62,7 @@ fn square_place(n: usize, r: usize, c: usize) -> Place
 
 impl Mat2 {
     pub fn zeros() -> Self
-        ensures { λ r. ⌜ r ≡ mat2 (zeros binary64 4) ⌝ }
+        ensures { λ r. ⌜ r ≡ mat2 (zeros F 4) ⌝ }
     {
         Mat2 { data: [0.0; 4] }
     }
@@ -86,7 +87,7 @@ impl Mat2 {
 
     // The number at (r, c).
     pub fn index(self, r: usize, c: usize) -> Entry
-        ensures { λ x. ⌜ entry binary64 x ≡ readOf binary64 2 r c (squareIndex 2 r c) (self .«data») ⌝ }
+        ensures { λ x. ⌜ entry F x ≡ readOf F 2 r c (squareIndex 2 r c) (self .«data») ⌝ }
     {
         let d = self.data;
         let p = square_place(2, r, c);
@@ -97,7 +98,7 @@ impl Mat2 {
     }
 
     // The matrix with x at (r, c).
-    pub fn index_mut(self, r: usize, c: usize, x: f64) -> Mat2Answer
+    pub fn index_mut(self, r: usize, c: usize, x: Real) -> Mat2Answer
         ensures { λ a. ⌜ a ≡ mat2Answer (writeOf 2 r c (squareIndex 2 r c) x (self .«data»)) ⌝ }
     {
         let mut d = self.data;
@@ -116,7 +117,7 @@ impl Mat2 {
     }
 
     pub fn set_identity(self) -> Self
-        ensures { λ r. ⌜ r ≡ mat2 (identityOf binary64 2) ⌝ }
+        ensures { λ r. ⌜ r ≡ mat2 (identityOf F 2) ⌝ }
     {
         Mat2 {
             data: [1.0, 0.0, 0.0, 1.0],
@@ -211,8 +212,8 @@ impl Mat2 {
     }
 
     // A x, in the order of the columns, each sum from +0 on.
-    fn times(self, x: [f64; 2]) -> [f64; 2]
-        ensures { λ r. ⌜ r ≡ timesOf binary64 2 (self .«data») x ⌝ }
+    fn times(self, x: [Real; 2]) -> [Real; 2]
+        ensures { λ r. ⌜ r ≡ timesOf F 2 (self .«data») x ⌝ }
     {
         let d = self.data;
         [
@@ -222,8 +223,8 @@ impl Mat2 {
     }
 
     // A x, judged before and after.
-    fn product(self, x: [f64; 2]) -> Numbers2
-        ensures { λ r. ⌜ r ≡ numbers2 (productOf binary64 2 (self .«data») x) ⌝ }
+    fn product(self, x: [Real; 2]) -> Numbers2
+        ensures { λ r. ⌜ r ≡ numbers2 (productOf F 2 (self .«data») x) ⌝ }
     {
         let d = self.data;
         if !all_finite(&d) {
@@ -236,8 +237,8 @@ impl Mat2 {
     }
 
     // y = A x, on slices of 2 places.
-    pub fn mul(self, y: &mut [f64], x: &[f64]) -> u8
-        ensures { λ r. ⌜ Outcome (mulOf binary64 2 (self .«data») (now (x .entry)) (now (y .entry))) r (now (y .exit)) ⌝ }
+    pub fn mul(self, y: &mut [Real], x: &[Real]) -> u8
+        ensures { λ r. ⌜ Outcome (mulOf F 2 (self .«data») (now (x .entry)) (now (y .entry))) r (now (y .exit)) ⌝ }
     {
         if y.len() != 2 {
             return OUTPUT_LENGTH;
@@ -251,7 +252,7 @@ impl Mat2 {
 
 impl Mat3 {
     pub fn zeros() -> Self
-        ensures { λ r. ⌜ r ≡ mat3 (zeros binary64 9) ⌝ }
+        ensures { λ r. ⌜ r ≡ mat3 (zeros F 9) ⌝ }
     {
         Mat3 { data: [0.0; 9] }
     }
@@ -276,7 +277,7 @@ impl Mat3 {
 
     // The number at (r, c).
     pub fn index(self, r: usize, c: usize) -> Entry
-        ensures { λ x. ⌜ entry binary64 x ≡ readOf binary64 3 r c (squareIndex 3 r c) (self .«data») ⌝ }
+        ensures { λ x. ⌜ entry F x ≡ readOf F 3 r c (squareIndex 3 r c) (self .«data») ⌝ }
     {
         let d = self.data;
         let p = square_place(3, r, c);
@@ -287,7 +288,7 @@ impl Mat3 {
     }
 
     // The matrix with x at (r, c).
-    pub fn index_mut(self, r: usize, c: usize, x: f64) -> Mat3Answer
+    pub fn index_mut(self, r: usize, c: usize, x: Real) -> Mat3Answer
         ensures { λ a. ⌜ a ≡ mat3Answer (writeOf 3 r c (squareIndex 3 r c) x (self .«data»)) ⌝ }
     {
         let mut d = self.data;
@@ -306,7 +307,7 @@ impl Mat3 {
     }
 
     pub fn set_identity(self) -> Self
-        ensures { λ r. ⌜ r ≡ mat3 (identityOf binary64 3) ⌝ }
+        ensures { λ r. ⌜ r ≡ mat3 (identityOf F 3) ⌝ }
     {
         Mat3 {
             data: [1.0, 0.0, 0.0, 0.0, 1.0, 0.0, 0.0, 0.0, 1.0],
@@ -438,8 +439,8 @@ impl Mat3 {
     }
 
     // A x, in the order of the columns, each sum from +0 on.
-    fn times(self, x: [f64; 3]) -> [f64; 3]
-        ensures { λ r. ⌜ r ≡ timesOf binary64 3 (self .«data») x ⌝ }
+    fn times(self, x: [Real; 3]) -> [Real; 3]
+        ensures { λ r. ⌜ r ≡ timesOf F 3 (self .«data») x ⌝ }
     {
         let d = self.data;
         [
@@ -450,8 +451,8 @@ impl Mat3 {
     }
 
     // A x, judged before and after.
-    fn product(self, x: [f64; 3]) -> Numbers3
-        ensures { λ r. ⌜ r ≡ numbers3 (productOf binary64 3 (self .«data») x) ⌝ }
+    fn product(self, x: [Real; 3]) -> Numbers3
+        ensures { λ r. ⌜ r ≡ numbers3 (productOf F 3 (self .«data») x) ⌝ }
     {
         let d = self.data;
         if !all_finite(&d) {
@@ -464,8 +465,8 @@ impl Mat3 {
     }
 
     // y = A x, on slices of 3 places.
-    pub fn mul(self, y: &mut [f64], x: &[f64]) -> u8
-        ensures { λ r. ⌜ Outcome (mulOf binary64 3 (self .«data») (now (x .entry)) (now (y .entry))) r (now (y .exit)) ⌝ }
+    pub fn mul(self, y: &mut [Real], x: &[Real]) -> u8
+        ensures { λ r. ⌜ Outcome (mulOf F 3 (self .«data») (now (x .entry)) (now (y .entry))) r (now (y .exit)) ⌝ }
     {
         if y.len() != 3 {
             return OUTPUT_LENGTH;

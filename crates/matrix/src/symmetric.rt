@@ -1,4 +1,4 @@
-// Symmetric matrices of sizes 2 and 3 by their upper triangle, column by column: A11, A12, A22, A13, A23, A33.
+// Symmetric matrices of sizes 2 and 3 by their upper triangle, column by column: A11, A12, A22, A13, A23, A33. Real is f64 (float::width).
 use crate::answers::Entry;
 use crate::answers::Place;
 use crate::codes::ANSWER_NOT_FINITE;
@@ -8,19 +8,20 @@ use crate::codes::OUTSIDE;
 use crate::square::Size;
 use float::sign::all_finite;
 use float::sign::is_finite;
+use float::width::Real;
 ghost use mathlib.Core.Path.{_≡_};
 ghost use Prim.Native.Nat.{_≤_};
-ghost use lib.Ieee.{binary64};
+ghost use Rattle.float.specs.Width.{F};
 ghost use Rattle.matrix.specs.Answer.{place, entry, zeros, refusedAll};
 ghost use Rattle.matrix.specs.Places.{packedIndex, indexOf, readOf, writeOf};
 ghost use Rattle.matrix.specs.Symmetric.{sym2, sym3, sym2Answer, sym3Answer, scaledOf, scaledFromOf};
 
 pub struct Sym2 {
-    pub data: [f64; 3],
+    pub data: [Real; 3],
 }
 
 pub struct Sym3 {
-    pub data: [f64; 6],
+    pub data: [Real; 6],
 }
 
 pub struct Sym2Answer {
@@ -53,7 +54,7 @@ fn packed_place(n: usize, r: usize, c: usize) -> Place
 
 impl Sym2 {
     pub fn zeros() -> Self
-        ensures { λ r. ⌜ r ≡ sym2 (zeros binary64 3) ⌝ }
+        ensures { λ r. ⌜ r ≡ sym2 (zeros F 3) ⌝ }
     {
         Sym2 { data: [0.0; 3] }
     }
@@ -78,7 +79,7 @@ impl Sym2 {
 
     // The number at (r, c), which is also the one at (c, r).
     pub fn index(self, r: usize, c: usize) -> Entry
-        ensures { λ x. ⌜ entry binary64 x ≡ readOf binary64 2 r c (packedIndex r c) (self .«data») ⌝ }
+        ensures { λ x. ⌜ entry F x ≡ readOf F 2 r c (packedIndex r c) (self .«data») ⌝ }
     {
         let d = self.data;
         let p = packed_place(2, r, c);
@@ -89,7 +90,7 @@ impl Sym2 {
     }
 
     // The matrix with x at (r, c) and (c, r).
-    pub fn index_mut(self, r: usize, c: usize, x: f64) -> Sym2Answer
+    pub fn index_mut(self, r: usize, c: usize, x: Real) -> Sym2Answer
         ensures { λ a. ⌜ a ≡ sym2Answer (writeOf 2 r c (packedIndex r c) x (self .«data»)) ⌝ }
     {
         let mut d = self.data;
@@ -114,8 +115,8 @@ impl Sym2 {
     }
 
     // c times each number of b.
-    pub fn scaled_from(c: f64, b: Sym2) -> Sym2Answer
-        ensures { λ a. ⌜ a ≡ sym2Answer (scaledFromOf binary64 2 c (b .«data»)) ⌝ }
+    pub fn scaled_from(c: Real, b: Sym2) -> Sym2Answer
+        ensures { λ a. ⌜ a ≡ sym2Answer (scaledFromOf F 2 c (b .«data»)) ⌝ }
     {
         let d = b.data;
         if !is_finite(c) {
@@ -137,7 +138,7 @@ impl Sym2 {
 }
 
 fn refused_sym2(code: u8) -> Sym2Answer
-    ensures { λ a. ⌜ a ≡ sym2Answer (refusedAll binary64 3 code) ⌝ }
+    ensures { λ a. ⌜ a ≡ sym2Answer (refusedAll F 3 code) ⌝ }
 {
     Sym2Answer {
         code,
@@ -145,8 +146,8 @@ fn refused_sym2(code: u8) -> Sym2Answer
     }
 }
 
-fn scaled2(c: f64, b: Sym2) -> Sym2
-    ensures { λ r. ⌜ r ≡ sym2 (scaledOf binary64 2 c (b .«data»)) ⌝ }
+fn scaled2(c: Real, b: Sym2) -> Sym2
+    ensures { λ r. ⌜ r ≡ sym2 (scaledOf F 2 c (b .«data»)) ⌝ }
 {
     let d = b.data;
     Sym2 {
@@ -156,7 +157,7 @@ fn scaled2(c: f64, b: Sym2) -> Sym2
 
 impl Sym3 {
     pub fn zeros() -> Self
-        ensures { λ r. ⌜ r ≡ sym3 (zeros binary64 6) ⌝ }
+        ensures { λ r. ⌜ r ≡ sym3 (zeros F 6) ⌝ }
     {
         Sym3 { data: [0.0; 6] }
     }
@@ -181,7 +182,7 @@ impl Sym3 {
 
     // The number at (r, c), which is also the one at (c, r).
     pub fn index(self, r: usize, c: usize) -> Entry
-        ensures { λ x. ⌜ entry binary64 x ≡ readOf binary64 3 r c (packedIndex r c) (self .«data») ⌝ }
+        ensures { λ x. ⌜ entry F x ≡ readOf F 3 r c (packedIndex r c) (self .«data») ⌝ }
     {
         let d = self.data;
         let p = packed_place(3, r, c);
@@ -192,7 +193,7 @@ impl Sym3 {
     }
 
     // The matrix with x at (r, c) and (c, r).
-    pub fn index_mut(self, r: usize, c: usize, x: f64) -> Sym3Answer
+    pub fn index_mut(self, r: usize, c: usize, x: Real) -> Sym3Answer
         ensures { λ a. ⌜ a ≡ sym3Answer (writeOf 3 r c (packedIndex r c) x (self .«data»)) ⌝ }
     {
         let mut d = self.data;
@@ -217,8 +218,8 @@ impl Sym3 {
     }
 
     // c times each number of b.
-    pub fn scaled_from(c: f64, b: Sym3) -> Sym3Answer
-        ensures { λ a. ⌜ a ≡ sym3Answer (scaledFromOf binary64 3 c (b .«data»)) ⌝ }
+    pub fn scaled_from(c: Real, b: Sym3) -> Sym3Answer
+        ensures { λ a. ⌜ a ≡ sym3Answer (scaledFromOf F 3 c (b .«data»)) ⌝ }
     {
         let d = b.data;
         if !is_finite(c) {
@@ -240,7 +241,7 @@ impl Sym3 {
 }
 
 fn refused_sym3(code: u8) -> Sym3Answer
-    ensures { λ a. ⌜ a ≡ sym3Answer (refusedAll binary64 6 code) ⌝ }
+    ensures { λ a. ⌜ a ≡ sym3Answer (refusedAll F 6 code) ⌝ }
 {
     Sym3Answer {
         code,
@@ -248,8 +249,8 @@ fn refused_sym3(code: u8) -> Sym3Answer
     }
 }
 
-fn scaled3(c: f64, b: Sym3) -> Sym3
-    ensures { λ r. ⌜ r ≡ sym3 (scaledOf binary64 3 c (b .«data»)) ⌝ }
+fn scaled3(c: Real, b: Sym3) -> Sym3
+    ensures { λ r. ⌜ r ≡ sym3 (scaledOf F 3 c (b .«data»)) ⌝ }
 {
     let d = b.data;
     Sym3 {

@@ -1,8 +1,10 @@
-// Numbers and matrices among the words of an item, and put into an answer. All go by value: an answer is made of calls in calls.
+// Numbers and matrices among the words of an item, and put into an answer. Real is f64 (float::width).
+// All go by value: an answer is made of calls in calls.
 use crate::words::coded;
 use crate::words::word;
 use float::bits::of_bits;
 use float::bits::to_bits;
+use float::width::Real;
 use matrix::square::Mat2;
 use matrix::square::Mat3;
 use matrix::symmetric::Sym2;
@@ -11,7 +13,7 @@ ghost use Prim.Native.Nat.{_+_, _≤_, _<_};
 ghost use lib.ListN.{length};
 
 // Reads as many numbers as there are places, from word `at` on.
-fn read(words: &[u64; 40], at: usize, places: &mut [f64])
+fn read(words: &[u64; 40], at: usize, places: &mut [Real])
     requires { ⌜ at + length (now places) ≤ 40 ⌝ }
 {
     let mut i = 0;
@@ -22,7 +24,7 @@ fn read(words: &[u64; 40], at: usize, places: &mut [f64])
 }
 
 // Puts the numbers into the words from `at` on.
-fn put(out: &mut [u64; 64], at: usize, numbers: &[f64])
+fn put(out: &mut [u64; 64], at: usize, numbers: &[Real])
     requires { ⌜ at + length (now numbers) ≤ 64 ⌝ }
 {
     let mut i = 0;
@@ -32,7 +34,7 @@ fn put(out: &mut [u64; 64], at: usize, numbers: &[f64])
     }
 }
 
-pub(crate) fn number(words: [u64; 40], at: usize) -> f64
+pub(crate) fn number(words: [u64; 40], at: usize) -> Real
     requires { ⌜ at < 40 ⌝ }
 {
     of_bits(words[at])
@@ -46,7 +48,7 @@ pub(crate) fn place(words: [u64; 40], at: usize) -> usize
 }
 
 // Eight places, of which a part is lent.
-pub(crate) fn eight(words: [u64; 40], at: usize) -> [f64; 8]
+pub(crate) fn eight(words: [u64; 40], at: usize) -> [Real; 8]
     requires { ⌜ at + 8 ≤ 40 ⌝ }
 {
     let mut x = [0.0; 8];
@@ -95,7 +97,7 @@ pub(crate) fn mat3(words: [u64; 40], at: usize) -> Mat3
     Mat3 { data: x }
 }
 
-pub(crate) fn put2(out: [u64; 64], at: usize, x: [f64; 2]) -> [u64; 64]
+pub(crate) fn put2(out: [u64; 64], at: usize, x: [Real; 2]) -> [u64; 64]
     requires { ⌜ at + 2 ≤ 64 ⌝ }
 {
     let mut o = out;
@@ -103,7 +105,7 @@ pub(crate) fn put2(out: [u64; 64], at: usize, x: [f64; 2]) -> [u64; 64]
     o
 }
 
-pub(crate) fn put3(out: [u64; 64], at: usize, x: [f64; 3]) -> [u64; 64]
+pub(crate) fn put3(out: [u64; 64], at: usize, x: [Real; 3]) -> [u64; 64]
     requires { ⌜ at + 3 ≤ 64 ⌝ }
 {
     let mut o = out;
@@ -111,7 +113,7 @@ pub(crate) fn put3(out: [u64; 64], at: usize, x: [f64; 3]) -> [u64; 64]
     o
 }
 
-fn put4(out: [u64; 64], at: usize, x: [f64; 4]) -> [u64; 64]
+fn put4(out: [u64; 64], at: usize, x: [Real; 4]) -> [u64; 64]
     requires { ⌜ at + 4 ≤ 64 ⌝ }
 {
     let mut o = out;
@@ -119,7 +121,7 @@ fn put4(out: [u64; 64], at: usize, x: [f64; 4]) -> [u64; 64]
     o
 }
 
-fn put6(out: [u64; 64], at: usize, x: [f64; 6]) -> [u64; 64]
+fn put6(out: [u64; 64], at: usize, x: [Real; 6]) -> [u64; 64]
     requires { ⌜ at + 6 ≤ 64 ⌝ }
 {
     let mut o = out;
@@ -127,7 +129,7 @@ fn put6(out: [u64; 64], at: usize, x: [f64; 6]) -> [u64; 64]
     o
 }
 
-fn put9(out: [u64; 64], at: usize, x: [f64; 9]) -> [u64; 64]
+fn put9(out: [u64; 64], at: usize, x: [Real; 9]) -> [u64; 64]
     requires { ⌜ at + 9 ≤ 64 ⌝ }
 {
     let mut o = out;
@@ -169,7 +171,7 @@ pub(crate) fn of_mat3(a: Mat3) -> [u64; 64] {
 }
 
 // The answer of a call on lent slices: the code, and the output's places.
-pub(crate) fn lent(code: u8, y: [f64; 8]) -> [u64; 64] {
+pub(crate) fn lent(code: u8, y: [Real; 8]) -> [u64; 64] {
     let mut out = coded(code);
     put(&mut out, 1, &y);
     out

@@ -11,6 +11,7 @@ use lib.Dec.{eqb}
 use lib.ListN.{length, getD, take, drop, length-append, length-take, length-drop}
 use lib.Seq.{take-all, take-suc, take-append-seam, drop-append-add, drop-drop, length-take-le}
 use lib.Ieee.{Float, Format, binary32, binary64, neg, ofBits}
+use Rattle.float.specs.Width.{F}
 use Rattle.float.specs.Choice.{pick}
 use Rattle.float.specs.Sign.{allFinite}
 use Rattle.float.proofs.Finite.{finite-neg}
@@ -20,7 +21,7 @@ use Rattle.eigen.specs.Eigen3x3.{EigenAnswer, eigenOf}
 use Rattle.eigen.specs.Reversed.{negated, AllDiffer, ValuesExchanged, ColumnsExchanged, Reversed}
 use Rattle.eigen.proofs.Reversed.{reversed}
 use Rattle.kinds.specs.Work.{KindAnswer, firstOf, markOf, fromEigen3, refusedKind, workOf}
-use Rattle.record.specs.Layout.{numberBytes, nineAt, threeAt, placeOf, requestSize}
+use Rattle.record.specs.Layout.{numberBytes, nineAt, threeAt, placeOf, requestSize, answerSize}
 use Rattle.record.specs.Bytes.{wordOf, part, numberAt, numbersFrom, allZero, zeroFrom}
 use Rattle.record.specs.Request.{kindOf, reservedZero, formOf, usedFinite, judgedOf}
 use Rattle.record.specs.Answer.{recordOf, answeredOf}
@@ -245,15 +246,15 @@ turned-size f s h =
     rw length-append (omega arith)
 
 pub reversed-calls : (κs : Lfts 2) (a b : _) (r q : ℕ) (x y : _) → answer-record.Post κs a r x → answer-record.Post κs b q y
-    → length (a .1 .0 .now) ≡ 176 → length (b .1 .0 .now) ≡ 176
-    → length (a .0 .now) ≡ 104 → kindOf (a .0 .now) ≡ 2 → Bytes (a .0 .now) → b .0 .now ≡ turned binary64 (a .0 .now)
-    → (r ≡ q) × (x .1 .0 .now ≡ answeredOf binary64 (a .0 .now)) × (y .1 .0 .now ≡ answeredOf binary64 (b .0 .now)) × ReversedRecords binary64 (a .0 .now) (b .0 .now)
+    → length (a .1 .0 .now) ≡ answerSize F → length (b .1 .0 .now) ≡ answerSize F
+    → length (a .0 .now) ≡ requestSize F → kindOf (a .0 .now) ≡ 2 → Bytes (a .0 .now) → b .0 .now ≡ turned F (a .0 .now)
+    → (r ≡ q) × (x .1 .0 .now ≡ answeredOf F (a .0 .now)) × (y .1 .0 .now ≡ answeredOf F (b .0 .now)) × ReversedRecords F (a .0 .now) (b .0 .now)
 reversed-calls κs a b r q x y p w u v n k c e =
     let s = a .0 .now in
     let t = b .0 .now in
-    let m : length t ≡ 104 = ap length e ∙ turned-size binary64 s n in
-    let h : ReversedRecords binary64 s t = subst (ReversedRecords binary64 s) (sym e) (reversed-records binary64 s n k c) in
+    let m : length t ≡ requestSize F = ap length e ∙ turned-size F s n in
+    let h : ReversedRecords F s t = subst (ReversedRecords F s) (sym e) (reversed-records F s n k c) in
     let l = stepped s (a .1 .0 .now) n u in
     let o = stepped t (b .1 .0 .now) m v in
     let code : List ℕ → ℕ = λ (z : List ℕ). getD z 5 0 in
-    (p .0 ∙ sym (code-in-place binary64 s (a .1 .0 .now) u) ∙ ap code l ∙ h .codes ∙ sym (ap code o) ∙ code-in-place binary64 t (b .1 .0 .now) v ∙ sym (w .0), p .1 ∙ l, w .1 ∙ o, h)
+    (p .0 ∙ sym (code-in-place F s (a .1 .0 .now) u) ∙ ap code l ∙ h .codes ∙ sym (ap code o) ∙ code-in-place F t (b .1 .0 .now) v ∙ sym (w .0), p .1 ∙ l, w .1 ∙ o, h)

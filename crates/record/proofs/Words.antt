@@ -6,6 +6,8 @@ use native.Mathlib.Omega.{arith}
 use native.Mathlib.Nat.{pow-zero, pow-suc, pow-le-pow-right}
 use native.Mathlib.Numerals.{add-one}
 use lib.ListN.{length, getD, take, set}
+use Rattle.float.specs.Width.{F}
+use Rattle.record.specs.Layout.{numberBytes}
 use Rattle.record.specs.Bytes.{wordOf, bytesOf, part}
 use Rattle.record.proofs.Parts.{part-more, stored-behind}
 
@@ -18,8 +20,8 @@ pub word-grows : (n n′ w b : ℕ) → n′ ≡ n + 1 → w < 256 ^ n → b < 2
 word-grows n n′ w b e h k = rw (e, add-one, pow-suc) (omega arith)
 
 -- up to eight bytes fit a word of the machine
-pub word-fits : (n w : ℕ) → n ≤ 8 → w < 256 ^ n → w < 18446744073709551616
-word-fits n w h k = let p : 256 ^ n ≤ 256 ^ 8 = pow-le-pow-right (omega arith) h in omega arith
+pub word-fits : (n w : ℕ) → n ≤ numberBytes F → w < 256 ^ n → w < 256 ^ numberBytes F
+word-fits n w h k = let p : 256 ^ n ≤ 256 ^ numberBytes F = pow-le-pow-right (omega arith) h in omega arith
 
 -- a byte stored-behind in front of the rest of its word
 pub bytes-more : (out t : List ℕ) (j j′ k k′ rest : ℕ) → j < length out → j′ ≡ j + 1 → k ≡ k′ + 1 → take j out ++ bytesOf k rest ≡ t → take j′ (set out j (rest % 256)) ++ bytesOf k′ (rest / 256) ≡ t

@@ -14,7 +14,8 @@ use matrix::codes::OUTPUT_LENGTH;
 ghost use mathlib.Core.Path.{_≡_};
 ghost use Prim.Native.Nat.{_≤_};
 ghost use lib.ListN.{length, take};
-ghost use lib.Ieee.{binary64};
+ghost use Rattle.float.specs.Width.{F};
+ghost use Rattle.record.specs.Layout.{answerSize};
 ghost use Rattle.record.specs.Answer.{ofWorked, recordOf, stepOf, Stepped};
 
 // The first eight bytes.
@@ -30,8 +31,8 @@ fn put_head(out: &mut [u8], head: [u8; 8])
 }
 
 fn put_record(out: &mut [u8], event: [u8; 4], kind: u8, w: Worked)
-    requires { ⌜ length (now out) ≡ 176 ⌝ }
-    ensures { λ _. ⌜ now (out .exit) ≡ recordOf binary64 event kind (ofWorked w) ⌝ }
+    requires { ⌜ length (now out) ≡ answerSize F ⌝ }
+    ensures { λ _. ⌜ now (out .exit) ≡ recordOf F event kind (ofWorked w) ⌝ }
 {
     put_head(
         out,
@@ -57,7 +58,7 @@ fn put_record(out: &mut [u8], event: [u8; 4], kind: u8, w: Worked)
 // The code, with the answer to any request in the answer slice. An answer slice of the wrong size stays as it is.
 #[no_mangle]
 pub extern "C" fn zanikory_answer_record(request: &[u8], answer: &mut [u8]) -> u8
-    ensures { λ r. ⌜ Stepped (stepOf binary64 (now (request .entry)) (now (answer .entry))) r (now (answer .exit)) ⌝ }
+    ensures { λ r. ⌜ Stepped (stepOf F (now (request .entry)) (now (answer .entry))) r (now (answer .exit)) ⌝ }
 {
     if answer.len() != ANSWER_SIZE {
         return OUTPUT_LENGTH;

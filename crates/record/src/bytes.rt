@@ -1,26 +1,29 @@
-// Words and numbers in byte slices, the lowest byte first.
-use crate::layout::NUMBER_SIZE;
+// Words and numbers in byte slices, the lowest byte first. Real is f64 (float::width).
 use float::bits::of_bits;
 use float::bits::to_bits;
+use float::width::Bits;
+use float::width::NUMBER_SIZE;
+use float::width::Real;
 ghost use mathlib.Core.Path.{_≡_};
 ghost use mathlib.Core.List.{_++_};
 ghost use Prim.Native.Nat.{_+_, _*_, _≤_, _<_};
 ghost use lib.ListN.{length, take};
-ghost use lib.Ieee.{binary64};
+ghost use Rattle.float.specs.Width.{F};
+ghost use Rattle.record.specs.Layout.{numberBytes};
 ghost use Rattle.record.specs.Bytes.{wordOf, bytesOf, part, numberAt, numberBytesOf, zeroFrom};
 
-fn wide(b: u8) -> u64
+fn wide(b: u8) -> Bits
     ensures { λ r. ⌜ (r ≡ b) × (r < 256) ⌝ }
 {
-    b as u64
+    b as Bits
 }
 
 // The word of the eight bytes from `at` on.
-fn word_at(s: &[u8], at: usize) -> u64
-    requires { ⌜ at + 8 ≤ length (now s) ⌝ }
-    ensures { λ r. ⌜ r ≡ wordOf (part at 8 (now (s .entry))) ⌝ }
+fn word_at(s: &[u8], at: usize) -> Bits
+    requires { ⌜ at + numberBytes F ≤ length (now s) ⌝ }
+    ensures { λ r. ⌜ r ≡ wordOf (part at (numberBytes F) (now (s .entry))) ⌝ }
 {
-    let mut w = 0u64;
+    let mut w: Bits = 0;
     let mut i = NUMBER_SIZE;
     while i > 0usize {
         i -= 1usize;
@@ -30,9 +33,9 @@ fn word_at(s: &[u8], at: usize) -> u64
 }
 
 // n's eight bytes from `at` on.
-fn put_word(out: &mut [u8], at: usize, n: u64)
-    requires { ⌜ at + 8 ≤ length (now out) ⌝ }
-    ensures { λ _. ⌜ take (at + 8) (now (out .exit)) ≡ take at (now (out .entry)) ++ bytesOf 8 n ⌝ }
+fn put_word(out: &mut [u8], at: usize, n: Bits)
+    requires { ⌜ at + numberBytes F ≤ length (now out) ⌝ }
+    ensures { λ _. ⌜ take (at + numberBytes F) (now (out .exit)) ≡ take at (now (out .entry)) ++ bytesOf (numberBytes F) n ⌝ }
 {
     let mut rest = n;
     let mut i = 0usize;
@@ -44,17 +47,17 @@ fn put_word(out: &mut [u8], at: usize, n: u64)
 }
 
 // The number at byte `at`.
-pub(crate) fn number_at(s: &[u8], at: usize) -> f64
-    requires { ⌜ at + 8 ≤ length (now s) ⌝ }
-    ensures { λ r. ⌜ r ≡ numberAt binary64 at (now (s .entry)) ⌝ }
+pub(crate) fn number_at(s: &[u8], at: usize) -> Real
+    requires { ⌜ at + numberBytes F ≤ length (now s) ⌝ }
+    ensures { λ r. ⌜ r ≡ numberAt F at (now (s .entry)) ⌝ }
 {
     of_bits(word_at(s, at))
 }
 
 // The numbers' bytes from `at` on.
-pub(crate) fn put_numbers(out: &mut [u8], at: usize, xs: &[f64])
-    requires { ⌜ at + 8 * length (now xs) ≤ length (now out) ⌝ }
-    ensures { λ _. ⌜ take (at + 8 * length (now (xs .entry))) (now (out .exit)) ≡ take at (now (out .entry)) ++ numberBytesOf binary64 (now (xs .entry)) ⌝ }
+pub(crate) fn put_numbers(out: &mut [u8], at: usize, xs: &[Real])
+    requires { ⌜ at + numberBytes F * length (now xs) ≤ length (now out) ⌝ }
+    ensures { λ _. ⌜ take (at + numberBytes F * length (now (xs .entry))) (now (out .exit)) ≡ take at (now (out .entry)) ++ numberBytesOf F (now (xs .entry)) ⌝ }
 {
     let mut i = 0usize;
     while i < xs.len() {

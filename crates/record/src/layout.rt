@@ -1,5 +1,5 @@
 // Where everything stands in a request and in an answer, in bytes.
-pub(crate) const NUMBER_SIZE: usize = 8;
+use float::width::NUMBER_SIZE;
 
 pub(crate) const KIND_AT: usize = 4;
 
@@ -8,13 +8,13 @@ pub(crate) const NUMBERS_AT: usize = 8;
 // ---- a request
 pub(crate) const WAY_AT: usize = 5;
 
-pub(crate) const THREE_AT: usize = 80;
+pub(crate) const THREE_AT: usize = NUMBERS_AT + 9 * NUMBER_SIZE;
 
-pub const REQUEST_SIZE: usize = 104;
+pub const REQUEST_SIZE: usize = THREE_AT + 3 * NUMBER_SIZE;
 
 // ---- an answer
-pub(crate) const LEFT_AT: usize = 32;
+pub(crate) const LEFT_AT: usize = NUMBERS_AT + 3 * NUMBER_SIZE;
 
-pub(crate) const RIGHT_AT: usize = 104;
+pub(crate) const RIGHT_AT: usize = LEFT_AT + 9 * NUMBER_SIZE;
 
-pub const ANSWER_SIZE: usize = 176;
+pub const ANSWER_SIZE: usize = RIGHT_AT + 9 * NUMBER_SIZE;

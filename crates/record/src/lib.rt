@@ -1,4 +1,4 @@
-// Requests of 104 bytes and their answers of 176.
+// Requests and their answers as bytes, one record or many in a row.
 pub mod answer;
 mod bytes;
 pub mod layout;

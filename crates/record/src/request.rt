@@ -1,13 +1,14 @@
-// What a request's bytes say: the tests of 3, 4 and 5 in their order, and then its kind's answer.
+// What a request's bytes say: the tests of 3, 4 and 5 in their order, and then its kind's answer. Real is f64 (float::width).
 use crate::bytes::number_at;
 use crate::bytes::zeros_in;
 use crate::layout::KIND_AT;
-use crate::layout::NUMBER_SIZE;
 use crate::layout::NUMBERS_AT;
 use crate::layout::REQUEST_SIZE;
 use crate::layout::THREE_AT;
 use crate::layout::WAY_AT;
 use float::sign::all_finite;
+use float::width::NUMBER_SIZE;
+use float::width::Real;
 use kinds::slots::is_known;
 use kinds::slots::nine_used;
 use kinds::slots::three_used;
@@ -23,18 +24,18 @@ ghost use mathlib.Core.Path.{_≡_};
 ghost use mathlib.Core.Bool.{_&&_};
 ghost use Prim.Native.Nat.{_≤_, _<_};
 ghost use lib.ListN.{length, take};
-ghost use lib.Ieee.{binary64};
+ghost use Rattle.float.specs.Width.{F};
 ghost use Rattle.float.specs.Sign.{allFinite};
 ghost use Rattle.kinds.specs.Slots.{nineUsed, threeUsed};
 ghost use Rattle.kinds.specs.Work.{worked};
-ghost use Rattle.record.specs.Layout.{nineAt, threeAt, placeOf};
+ghost use Rattle.record.specs.Layout.{nineAt, threeAt, placeOf, requestSize};
 ghost use Rattle.record.specs.Bytes.{numberAt, numbersFrom};
 ghost use Rattle.record.specs.Request.{reservedZero, unusedZero, formOf, sizedFormOf, judgedOf};
 
 // Whether the reserved bytes and the numbers that the kind doesn't use are all zero bits.
 fn unused_zero(s: &[u8], kind: u8) -> bool
-    requires { ⌜ length (now s) ≡ 104 ⌝ }
-    ensures { λ r. ⌜ r ≡ (reservedZero kind (now (s .entry)) && unusedZero binary64 kind (now (s .entry))) ⌝ }
+    requires { ⌜ length (now s) ≡ requestSize F ⌝ }
+    ensures { λ r. ⌜ r ≡ (reservedZero kind (now (s .entry)) && unusedZero F kind (now (s .entry))) ⌝ }
 {
     let n = nine_used(kind);
     let t = three_used(kind);
@@ -47,8 +48,8 @@ fn unused_zero(s: &[u8], kind: u8) -> bool
 }
 
 fn form_of(s: &[u8]) -> u8
-    requires { ⌜ length (now s) ≡ 104 ⌝ }
-    ensures { λ r. ⌜ r ≡ formOf binary64 (now (s .entry)) ⌝ }
+    requires { ⌜ length (now s) ≡ requestSize F ⌝ }
+    ensures { λ r. ⌜ r ≡ formOf F (now (s .entry)) ⌝ }
 {
     let kind = s[KIND_AT];
     if is_known(kind) {
@@ -62,7 +63,7 @@ fn form_of(s: &[u8]) -> u8
 
 // The tests of 3 and 4 on a request's bytes: 0, 3 or 4; and 1 for a slice of another size.
 pub fn form(request: &[u8]) -> u8
-    ensures { λ r. ⌜ r ≡ sizedFormOf binary64 (now (request .entry)) ⌝ }
+    ensures { λ r. ⌜ r ≡ sizedFormOf F (now (request .entry)) ⌝ }
 {
     if request.len() != REQUEST_SIZE {
         return INPUT_LENGTH;
@@ -71,16 +72,16 @@ pub fn form(request: &[u8]) -> u8
 }
 
 // The number in slot i: the nine, and then the three.
-fn slot(s: &[u8], i: usize) -> f64
-    requires { ⌜ (length (now s) ≡ 104) × (i < 12) ⌝ }
-    ensures { λ r. ⌜ r ≡ numberAt binary64 (placeOf binary64 nineAt i) (now (s .entry)) ⌝ }
+fn slot(s: &[u8], i: usize) -> Real
+    requires { ⌜ (length (now s) ≡ requestSize F) × (i < 12) ⌝ }
+    ensures { λ r. ⌜ r ≡ numberAt F (placeOf F nineAt i) (now (s .entry)) ⌝ }
 {
     number_at(s, NUMBERS_AT + NUMBER_SIZE * i)
 }
 
-fn numbers9(s: &[u8]) -> [f64; 9]
-    requires { ⌜ length (now s) ≡ 104 ⌝ }
-    ensures { λ r. ⌜ r ≡ numbersFrom binary64 9 nineAt (now (s .entry)) ⌝ }
+fn numbers9(s: &[u8]) -> [Real; 9]
+    requires { ⌜ length (now s) ≡ requestSize F ⌝ }
+    ensures { λ r. ⌜ r ≡ numbersFrom F 9 nineAt (now (s .entry)) ⌝ }
 {
     [
         slot(s, 0),
@@ -95,15 +96,15 @@ fn numbers9(s: &[u8]) -> [f64; 9]
     ]
 }
 
-fn numbers3(s: &[u8]) -> [f64; 3]
-    requires { ⌜ length (now s) ≡ 104 ⌝ }
-    ensures { λ r. ⌜ r ≡ numbersFrom binary64 3 (threeAt binary64) (now (s .entry)) ⌝ }
+fn numbers3(s: &[u8]) -> [Real; 3]
+    requires { ⌜ length (now s) ≡ requestSize F ⌝ }
+    ensures { λ r. ⌜ r ≡ numbersFrom F 3 (threeAt F) (now (s .entry)) ⌝ }
 {
     [slot(s, 9), slot(s, 10), slot(s, 11)]
 }
 
 // Whether the first n are finite.
-fn first_finite(xs: &[f64], n: usize) -> bool
+fn first_finite(xs: &[Real], n: usize) -> bool
     requires { ⌜ n ≤ length (now xs) ⌝ }
     ensures { λ r. ⌜ r ≡ allFinite (take n (now (xs .entry))) ⌝ }
 {
@@ -111,7 +112,7 @@ fn first_finite(xs: &[f64], n: usize) -> bool
 }
 
 // Whether the numbers that the kind uses are finite.
-fn used_finite(kind: u8, nine: [f64; 9], three: [f64; 3]) -> bool
+fn used_finite(kind: u8, nine: [Real; 9], three: [Real; 3]) -> bool
     ensures { λ r. ⌜ r ≡ (allFinite (take (nineUsed kind) nine) && allFinite (take (threeUsed kind) three)) ⌝ }
 {
     if first_finite(&nine, nine_used(kind)) {
@@ -122,8 +123,8 @@ fn used_finite(kind: u8, nine: [f64; 9], three: [f64; 3]) -> bool
 
 // The answer of a request of the right size.
 pub(crate) fn judged(s: &[u8]) -> Worked
-    requires { ⌜ length (now s) ≡ 104 ⌝ }
-    ensures { λ w. ⌜ w ≡ worked (judgedOf binary64 (now (s .entry))) ⌝ }
+    requires { ⌜ length (now s) ≡ requestSize F ⌝ }
+    ensures { λ w. ⌜ w ≡ worked (judgedOf F (now (s .entry))) ⌝ }
 {
     let code = form_of(s);
     if code != DONE {

@@ -3,7 +3,8 @@ use mathlib.Core.Path.{_≡_, refl, sym, ap, _∙_}
 use mathlib.Core.Bool.{Bool}
 use mathlib.Core.List.{List}
 use Prim.Native.Nat.{ℕ}
-use lib.Ieee.{Float, Format, binary64}
+use lib.Ieee.{Float, Format}
+use Rattle.float.specs.Width.{F}
 use Rattle.matrix.specs.declared.square.Mat3.{Mat3}
 use Rattle.eigen.specs.Run.{Ran}
 use Rattle.eigen.proofs.Run.{ran-counted}
@@ -31,5 +32,5 @@ pub record Counted (f : Format) (a : List Float) (count : ℕ) (settled : Bool) 
 pub counted : (f : Format) (a : List Float) → svdOf f a .code ≡ 0 → Counted f a (svdOf f a .count) (svdOf f a .settled)
 counted f a e = rw (answered f a e .is) (record { ran = states-counted f a; mark = refl })
 
-pub counted-call : (a : Mat3) (r : Svd3) → svd.Post tt (a, tt) r (a, tt) → r .code ≡ 0 → Counted binary64 (a .«data») (r .count) (r .settled)
-counted-call a r p e = rw p (counted binary64 (a .«data») (sym (ap (λ (r : Svd3). r .code) p) ∙ e))
+pub counted-call : (a : Mat3) (r : Svd3) → svd.Post tt (a, tt) r (a, tt) → r .code ≡ 0 → Counted F (a .«data») (r .count) (r .settled)
+counted-call a r p e = rw p (counted F (a .«data») (sym (ap (λ (r : Svd3). r .code) p) ∙ e))

@@ -9,7 +9,8 @@ use mathlib.Core.List.{List, [], _∷_}
 use Prim.Native.Nat.{ℕ, _*_}
 use native.Mathlib.Omega.{arith}
 use lib.ListN.{length}
-use lib.Ieee.{Float, Format, binary64, lt}
+use lib.Ieee.{Float, Format, lt}
+use Rattle.float.specs.Width.{F}
 use Rattle.float.specs.Choice.{pick}
 use Rattle.float.specs.Sign.{magnitudeOf, signBitOf, finite, allFinite}
 use Rattle.float.proofs.Finite.{at-finite}
@@ -119,8 +120,8 @@ in-order f a n e =
     })
 
 pub in-order-call : (a : Mat3) (r : Svd3) → length (a .«data») ≡ 9 → svd3x3-svd.Post tt (a, tt) r (a, tt) → r .code ≡ 0
-    → InOrder binary64 3 (lastSigned binary64 (a .«data»)) (record { values = r .values; u = r .u .«data»; v = r .v .«data» })
-in-order-call a r n p e = rw p (in-order binary64 (a .«data») n (sym (ap (λ (r : Svd3). r .code) p) ∙ e))
+    → InOrder F 3 (lastSigned F (a .«data»)) (record { values = r .values; u = r .u .«data»; v = r .v .«data» })
+in-order-call a r n p e = rw p (in-order F (a .«data») n (sym (ap (λ (r : Svd3). r .code) p) ∙ e))
 
 pub in-order2 : (f : Format) (a : List Float) → svd2Of f a .code ≡ 0
     → InOrder f 2 (last2Signed f a) (record { values = svd2Of f a .values; u = svd2Of f a .u; v = svd2Of f a .v })
@@ -133,5 +134,5 @@ in-order2 f a e =
     rw (d .is) (record { moved = same-permutation2 (r .d1) (r .d2) u v; values = descending2 f (r .d1) (r .d2) u v (d .finite) })
 
 pub in-order2-call : (a : Mat2) (r : Svd2) → svd2x2-svd.Post tt (a, tt) r (a, tt) → r .code ≡ 0
-    → InOrder binary64 2 (last2Signed binary64 (a .«data»)) (record { values = r .values; u = r .u .«data»; v = r .v .«data» })
-in-order2-call a r p e = rw p (in-order2 binary64 (a .«data») (sym (ap (λ (r : Svd2). r .code) p) ∙ e))
+    → InOrder F 2 (last2Signed F (a .«data»)) (record { values = r .values; u = r .u .«data»; v = r .v .«data» })
+in-order2-call a r p e = rw p (in-order2 F (a .«data») (sym (ap (λ (r : Svd2). r .code) p) ∙ e))

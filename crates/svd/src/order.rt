@@ -1,6 +1,7 @@
-// Singular values from what lies on the diagonal: signs go to the columns of U, then U and V follow the values down.
+// Singular values from what lies on the diagonal: signs go to the columns of U, then U and V follow the values down. Real is f64 (float::width).
 use float::sign::magnitude;
 use float::sign::sign_bit;
+use float::width::Real;
 use matrix::square::Mat2;
 use matrix::square::Mat3;
 ghost use mathlib.Core.Path.{_≡_};
@@ -10,30 +11,30 @@ ghost use Rattle.eigen.specs.declared.pairs.Pair.the-variants.{P12, P13, P23};
 
 // Values, and the columns of U and V that belong to them.
 pub struct Factors3 {
-    pub values: [f64; 3],
+    pub values: [Real; 3],
     pub u: Mat3,
     pub v: Mat3,
 }
 
 pub struct Factors2 {
-    pub values: [f64; 2],
+    pub values: [Real; 2],
     pub u: Mat2,
     pub v: Mat2,
 }
 
-fn sign1(u: Mat3, x: f64) -> Mat3
+fn sign1(u: Mat3, x: Real) -> Mat3
     ensures { λ r. ⌜ r ≡ mat3 (signedColumn 3 0 x (u .«data»)) ⌝ }
 {
     if sign_bit(x) { u.flip1() } else { u }
 }
 
-fn sign2(u: Mat3, x: f64) -> Mat3
+fn sign2(u: Mat3, x: Real) -> Mat3
     ensures { λ r. ⌜ r ≡ mat3 (signedColumn 3 1 x (u .«data»)) ⌝ }
 {
     if sign_bit(x) { u.flip2() } else { u }
 }
 
-fn sign3(u: Mat3, x: f64) -> Mat3
+fn sign3(u: Mat3, x: Real) -> Mat3
     ensures { λ r. ⌜ r ≡ mat3 (signedColumn 3 2 x (u .«data»)) ⌝ }
 {
     if sign_bit(x) { u.flip3() } else { u }
@@ -91,7 +92,7 @@ fn descend23(w: Factors3) -> Factors3
 }
 
 // Signs first, then the order.
-pub fn fix_order_and_signs_3x3(a: f64, b: f64, c: f64, u: Mat3, v: Mat3) -> Factors3
+pub fn fix_order_and_signs_3x3(a: Real, b: Real, c: Real, u: Mat3, v: Mat3) -> Factors3
     ensures { λ r. ⌜ r ≡ factors3 (orderOf a b c (u .«data») (v .«data»)) ⌝ }
 {
     let values = [magnitude(a), magnitude(b), magnitude(c)];
@@ -103,13 +104,13 @@ pub fn fix_order_and_signs_3x3(a: f64, b: f64, c: f64, u: Mat3, v: Mat3) -> Fact
     })))
 }
 
-fn sign1_2x2(u: Mat2, x: f64) -> Mat2
+fn sign1_2x2(u: Mat2, x: Real) -> Mat2
     ensures { λ r. ⌜ r ≡ mat2 (signedColumn 2 0 x (u .«data»)) ⌝ }
 {
     if sign_bit(x) { u.flip1() } else { u }
 }
 
-fn sign2_2x2(u: Mat2, x: f64) -> Mat2
+fn sign2_2x2(u: Mat2, x: Real) -> Mat2
     ensures { λ r. ⌜ r ≡ mat2 (signedColumn 2 1 x (u .«data»)) ⌝ }
 {
     if sign_bit(x) { u.flip2() } else { u }
@@ -132,7 +133,7 @@ fn descend_2x2(w: Factors2) -> Factors2
     }
 }
 
-pub fn set_order_and_signs_2x2(a: f64, b: f64, u: Mat2, v: Mat2) -> Factors2
+pub fn set_order_and_signs_2x2(a: Real, b: Real, u: Mat2, v: Mat2) -> Factors2
     ensures { λ r. ⌜ r ≡ factors2 (order2Of a b (u .«data») (v .«data»)) ⌝ }
 {
     let values = [magnitude(a), magnitude(b)];

@@ -6,14 +6,14 @@ use eigen::pairs::Pair;
 use float::sign::magnitude;
 use matrix::square::Mat3;
 ghost use mathlib.Core.Path.{_≡_};
-ghost use lib.Ieee.{binary64};
+ghost use Rattle.float.specs.Width.{F};
 ghost use Rattle.matrix.specs.Square.{mat3};
 ghost use Rattle.svd.specs.Polar.{sides, twoSided};
 ghost use Rattle.svd.specs.Pairs.{offDiagOf, sidesOf, applied12, applied13, applied23, appliedOf};
 
 // The largest of the three by the sum of its two magnitudes, the first on ties.
 pub fn find_largest_off_diag_nonsym(a: Mat3) -> OffDiag
-    ensures { λ r. ⌜ r ≡ offDiagOf binary64 (a .«data») ⌝ }
+    ensures { λ r. ⌜ r ≡ offDiagOf F (a .«data») ⌝ }
 {
     let d = a.data;
     let abs12 = magnitude(d[3]) + magnitude(d[1]);
@@ -48,7 +48,7 @@ pub fn find_largest_off_diag_nonsym(a: Mat3) -> OffDiag
 
 // The two-sided rotation of a pair.
 pub(crate) fn rotation_of(a: Mat3, p: Pair) -> TwoSided
-    ensures { λ r. ⌜ r ≡ twoSided (sidesOf binary64 p (a .«data»)) ⌝ }
+    ensures { λ r. ⌜ r ≡ twoSided (sidesOf F p (a .«data»)) ⌝ }
 {
     let d = a.data;
     match p {
@@ -59,7 +59,7 @@ pub(crate) fn rotation_of(a: Mat3, p: Pair) -> TwoSided
 }
 
 fn apply12(a: Mat3, r: TwoSided) -> Mat3
-    ensures { λ b. ⌜ b ≡ mat3 (applied12 binary64 (sides r) (a .«data»)) ⌝ }
+    ensures { λ b. ⌜ b ≡ mat3 (applied12 F (sides r) (a .«data»)) ⌝ }
 {
     let d = a.data;
     Mat3 {
@@ -78,7 +78,7 @@ fn apply12(a: Mat3, r: TwoSided) -> Mat3
 }
 
 fn apply13(a: Mat3, r: TwoSided) -> Mat3
-    ensures { λ b. ⌜ b ≡ mat3 (applied13 binary64 (sides r) (a .«data»)) ⌝ }
+    ensures { λ b. ⌜ b ≡ mat3 (applied13 F (sides r) (a .«data»)) ⌝ }
 {
     let d = a.data;
     Mat3 {
@@ -97,7 +97,7 @@ fn apply13(a: Mat3, r: TwoSided) -> Mat3
 }
 
 fn apply23(a: Mat3, r: TwoSided) -> Mat3
-    ensures { λ b. ⌜ b ≡ mat3 (applied23 binary64 (sides r) (a .«data»)) ⌝ }
+    ensures { λ b. ⌜ b ≡ mat3 (applied23 F (sides r) (a .«data»)) ⌝ }
 {
     let d = a.data;
     Mat3 {
@@ -117,7 +117,7 @@ fn apply23(a: Mat3, r: TwoSided) -> Mat3
 
 // The matrix after a two-sided rotation of the pair.
 pub fn apply_two_sided_rotation(a: Mat3, p: Pair, r: TwoSided) -> Mat3
-    ensures { λ b. ⌜ b ≡ mat3 (appliedOf binary64 p (sides r) (a .«data»)) ⌝ }
+    ensures { λ b. ⌜ b ≡ mat3 (appliedOf F p (sides r) (a .«data»)) ⌝ }
 {
     match p {
         Pair::P12 => apply12(a, r),

@@ -1,37 +1,38 @@
-// One pair of a square matrix: made symmetric by a polar rotation, then diagonal by a Jacobi rotation.
+// One pair of a square matrix: made symmetric by a polar rotation, then diagonal by a Jacobi rotation. Real is f64 (float::width).
 use eigen::rotation::Rotation;
 use eigen::rotation::compute_jacobi_rotation;
 use float::root::root;
 use float::sign::magnitude;
+use float::width::Real;
 ghost use mathlib.Core.Path.{_≡_};
-ghost use lib.Ieee.{binary64};
+ghost use Rattle.float.specs.Width.{F};
 ghost use Rattle.eigen.specs.Rotation.{turn};
 ghost use Rattle.svd.specs.Polar.{hypotOfSizes, hypotOf, polar, ofPolar, symmetrisedBy, polarBy, polarOf, twoSided, composed, twoSidedOf};
 
 // Cosine and sine of the polar rotation, and the symmetrised pair.
 pub struct Polar {
-    pub c: f64,
-    pub s: f64,
-    pub s11: f64,
-    pub s12: f64,
-    pub s22: f64,
+    pub c: Real,
+    pub s: Real,
+    pub s11: Real,
+    pub s12: Real,
+    pub s22: Real,
 }
 
 // The left and the right turn, the two diagonal numbers, and the symmetrised pair that they came from.
 pub struct TwoSided {
-    pub cl: f64,
-    pub sl: f64,
-    pub cr: f64,
-    pub sr: f64,
-    pub d1: f64,
-    pub d2: f64,
-    pub s11: f64,
-    pub s12: f64,
-    pub s22: f64,
+    pub cl: Real,
+    pub sl: Real,
+    pub cr: Real,
+    pub sr: Real,
+    pub d1: Real,
+    pub d2: Real,
+    pub s11: Real,
+    pub s12: Real,
+    pub s22: Real,
 }
 
-fn hypot_of_sizes(large: f64, small: f64) -> f64
-    ensures { λ r. ⌜ r ≡ hypotOfSizes binary64 large small ⌝ }
+fn hypot_of_sizes(large: Real, small: Real) -> Real
+    ensures { λ r. ⌜ r ≡ hypotOfSizes F large small ⌝ }
 {
     if small == 0.0 {
         if large == 0.0 {
@@ -44,8 +45,8 @@ fn hypot_of_sizes(large: f64, small: f64) -> f64
 }
 
 // The root of x^2 + y^2, by the quotient of the smaller and the larger.
-pub fn hypot_fast(x: f64, y: f64) -> f64
-    ensures { λ r. ⌜ r ≡ hypotOf binary64 x y ⌝ }
+pub fn hypot_fast(x: Real, y: Real) -> Real
+    ensures { λ r. ⌜ r ≡ hypotOf F x y ⌝ }
 {
     let x = magnitude(x);
     let y = magnitude(y);
@@ -56,8 +57,8 @@ pub fn hypot_fast(x: f64, y: f64) -> f64
     }
 }
 
-fn symmetrised(app: f64, aqp: f64, apq: f64, aqq: f64, c: f64, s: f64) -> Polar
-    ensures { λ r. ⌜ r ≡ polar (symmetrisedBy binary64 app aqp apq aqq c s) ⌝ }
+fn symmetrised(app: Real, aqp: Real, apq: Real, aqq: Real, c: Real, s: Real) -> Polar
+    ensures { λ r. ⌜ r ≡ polar (symmetrisedBy F app aqp apq aqq c s) ⌝ }
 {
     Polar {
         c,
@@ -68,8 +69,8 @@ fn symmetrised(app: f64, aqp: f64, apq: f64, aqq: f64, c: f64, s: f64) -> Polar
     }
 }
 
-fn polar_by(app: f64, aqp: f64, apq: f64, aqq: f64, x: f64, y: f64, d: f64) -> Polar
-    ensures { λ r. ⌜ r ≡ polar (polarBy binary64 app aqp apq aqq x y d) ⌝ }
+fn polar_by(app: Real, aqp: Real, apq: Real, aqq: Real, x: Real, y: Real, d: Real) -> Polar
+    ensures { λ r. ⌜ r ≡ polar (polarBy F app aqp apq aqq x y d) ⌝ }
 {
     if d == 0.0 {
         symmetrised(app, aqp, apq, aqq, 1.0, 0.0)
@@ -79,8 +80,8 @@ fn polar_by(app: f64, aqp: f64, apq: f64, aqq: f64, x: f64, y: f64, d: f64) -> P
 }
 
 // A rotation that makes the pair symmetric.
-pub fn compute_polar_2x2(app: f64, aqp: f64, apq: f64, aqq: f64) -> Polar
-    ensures { λ r. ⌜ r ≡ polar (polarOf binary64 app aqp apq aqq) ⌝ }
+pub fn compute_polar_2x2(app: Real, aqp: Real, apq: Real, aqq: Real) -> Polar
+    ensures { λ r. ⌜ r ≡ polar (polarOf F app aqp apq aqq) ⌝ }
 {
     let x = app + aqq;
     let y = aqp - apq;
@@ -88,7 +89,7 @@ pub fn compute_polar_2x2(app: f64, aqp: f64, apq: f64, aqq: f64) -> Polar
 }
 
 fn compose(p: Polar, j: Rotation) -> TwoSided
-    ensures { λ r. ⌜ r ≡ twoSided (composed binary64 (ofPolar p) (turn j)) ⌝ }
+    ensures { λ r. ⌜ r ≡ twoSided (composed F (ofPolar p) (turn j)) ⌝ }
 {
     TwoSided {
         cl: p.c * j.c - p.s * j.s,
@@ -104,8 +105,8 @@ fn compose(p: Polar, j: Rotation) -> TwoSided
 }
 
 // The rotation from both sides that makes the pair diagonal.
-pub fn compute_two_sided_rotation(app: f64, aqp: f64, apq: f64, aqq: f64) -> TwoSided
-    ensures { λ r. ⌜ r ≡ twoSided (twoSidedOf binary64 app aqp apq aqq) ⌝ }
+pub fn compute_two_sided_rotation(app: Real, aqp: Real, apq: Real, aqq: Real) -> TwoSided
+    ensures { λ r. ⌜ r ≡ twoSided (twoSidedOf F app aqp apq aqq) ⌝ }
 {
     let p = compute_polar_2x2(app, aqp, apq, aqq);
     let j = compute_jacobi_rotation(p.s12, p.s11, p.s22);

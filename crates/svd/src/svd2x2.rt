@@ -1,15 +1,16 @@
-// The 2x2 call: one two-sided rotation is enough.
+// The 2x2 call: one two-sided rotation is enough. Real is f64 (float::width).
 use crate::order::Factors2;
 use crate::order::set_order_and_signs_2x2;
 use crate::polar::TwoSided;
 use crate::polar::compute_two_sided_rotation;
 use float::sign::all_finite;
+use float::width::Real;
 use matrix::codes::ANSWER_NOT_FINITE;
 use matrix::codes::DONE;
 use matrix::codes::INPUT_NOT_FINITE;
 use matrix::square::Mat2;
 ghost use mathlib.Core.Path.{_≡_};
-ghost use lib.Ieee.{binary64};
+ghost use Rattle.float.specs.Width.{F};
 ghost use Rattle.svd.specs.Polar.{sides};
 ghost use Rattle.svd.specs.Order.{factors2, ofFactors2};
 ghost use Rattle.svd.specs.Svd2x2.{factors2Of, svd2, refusedSvd2, judgedSvd2, svd2Of};
@@ -17,7 +18,7 @@ ghost use Rattle.svd.specs.Svd2x2.{factors2Of, svd2, refusedSvd2, judged
 pub struct Svd2 {
     pub code: u8,
     pub settled: bool,
-    pub values: [f64; 2],
+    pub values: [Real; 2],
     pub u: Mat2,
     pub v: Mat2,
 }
@@ -35,7 +36,7 @@ fn factors(r: TwoSided) -> Factors2
 }
 
 fn refused(code: u8) -> Svd2
-    ensures { λ r. ⌜ r ≡ svd2 (refusedSvd2 binary64 code) ⌝ }
+    ensures { λ r. ⌜ r ≡ svd2 (refusedSvd2 F code) ⌝ }
 {
     Svd2 {
         code,
@@ -47,7 +48,7 @@ fn refused(code: u8) -> Svd2
 }
 
 fn judge(w: Factors2) -> Svd2
-    ensures { λ r. ⌜ r ≡ svd2 (judgedSvd2 binary64 (ofFactors2 w)) ⌝ }
+    ensures { λ r. ⌜ r ≡ svd2 (judgedSvd2 F (ofFactors2 w)) ⌝ }
 {
     let values = w.values;
     let u = w.u;
@@ -74,7 +75,7 @@ fn judge(w: Factors2) -> Svd2
 
 // Values in descending order, with the columns of U and V.
 pub fn svd(a: Mat2) -> Svd2
-    ensures { λ r. ⌜ r ≡ svd2 (svd2Of binary64 (a .«data»)) ⌝ }
+    ensures { λ r. ⌜ r ≡ svd2 (svd2Of F (a .«data»)) ⌝ }
 {
     let d = a.data;
     if !all_finite(&d) {

@@ -1,4 +1,4 @@
-// The 3x3 call: at most 25 two-sided rotations of the largest pair, until all sums of a pair's magnitudes are under 2^-44.
+// The 3x3 call: at most 25 two-sided rotations of the largest pair, until all sums of a pair's magnitudes are under 2^-44. Real is f64 (float::width).
 use crate::order::Factors3;
 use crate::order::fix_order_and_signs_3x3;
 use crate::pairs::apply_two_sided_rotation;
@@ -6,12 +6,14 @@ use crate::pairs::find_largest_off_diag_nonsym;
 use crate::pairs::rotation_of;
 use eigen::pairs::turn_columns;
 use float::sign::all_finite;
+use float::width::LIMIT;
+use float::width::Real;
 use matrix::codes::ANSWER_NOT_FINITE;
 use matrix::codes::DONE;
 use matrix::codes::INPUT_NOT_FINITE;
 use matrix::square::Mat3;
 ghost use mathlib.Core.Path.{_≡_};
-ghost use lib.Ieee.{binary64};
+ghost use Rattle.float.specs.Width.{F};
 ghost use Rattle.float.specs.Constants.{limitF};
 ghost use Rattle.svd.specs.Order.{factors3, ofFactors3};
 ghost use Rattle.svd.specs.Svd3x3.{working, ofWorking, settledOf, workOf, startOf, svd3, refusedSvd, factorsOf, judgedSvd, svdOf};
@@ -28,21 +30,21 @@ pub struct Svd3 {
     pub code: u8,
     pub count: u8,
     pub settled: bool,
-    pub values: [f64; 3],
+    pub values: [Real; 3],
     pub u: Mat3,
     pub v: Mat3,
     pub worked: Mat3,
 }
 
 // The crate's limit: 2^-44.
-fn limit() -> f64
-    ensures { λ r. ⌜ r ≡ limitF binary64 ⌝ }
+fn limit() -> Real
+    ensures { λ r. ⌜ r ≡ limitF F ⌝ }
 {
-    5.684341886080802e-14
+    LIMIT
 }
 
 fn is_settled(a: Mat3) -> bool
-    ensures { λ r. ⌜ r ≡ settledOf binary64 (a .«data») ⌝ }
+    ensures { λ r. ⌜ r ≡ settledOf F (a .«data») ⌝ }
 {
     let largest = find_largest_off_diag_nonsym(a);
     largest.size < limit()
@@ -50,7 +52,7 @@ fn is_settled(a: Mat3) -> bool
 
 // The run of at most 25 rotations.
 fn work(a: Mat3) -> Working
-    ensures { λ w. ⌜ w ≡ working (workOf binary64 25 (startOf binary64 (a .«data»))) ⌝ }
+    ensures { λ w. ⌜ w ≡ working (workOf F 25 (startOf F (a .«data»))) ⌝ }
 {
     let mut b = a;
     let mut u = Mat3::zeros().set_identity();
@@ -72,7 +74,7 @@ fn work(a: Mat3) -> Working
 }
 
 fn refused(code: u8) -> Svd3
-    ensures { λ r. ⌜ r ≡ svd3 (refusedSvd binary64 code) ⌝ }
+    ensures { λ r. ⌜ r ≡ svd3 (refusedSvd F code) ⌝ }
 {
     Svd3 {
         code,
@@ -98,7 +100,7 @@ fn factors(w: Working) -> Factors3
 
 // The answer, if all its numbers are finite. The values are magnitudes of numbers of the matrix.
 fn judge(w: Working, x: Factors3) -> Svd3
-    ensures { λ r. ⌜ r ≡ svd3 (judgedSvd binary64 (ofWorking w) (ofFactors3 x)) ⌝ }
+    ensures { λ r. ⌜ r ≡ svd3 (judgedSvd F (ofWorking w) (ofFactors3 x)) ⌝ }
 {
     let a = w.a;
     let u = x.u;
@@ -130,7 +132,7 @@ fn judge(w: Working, x: Factors3) -> Svd3
 
 // Values in descending order, with the columns of U and V.
 pub fn svd(a: Mat3) -> Svd3
-    ensures { λ r. ⌜ r ≡ svd3 (svdOf binary64 (a .«data»)) ⌝ }
+    ensures { λ r. ⌜ r ≡ svd3 (svdOf F (a .«data»)) ⌝ }
 {
     let d = a.data;
     if !all_finite(&d) {

@@ -1,16 +1,18 @@
--- A large buffer has room for 372 answers, and there are no more requests than that. Assumes nothing.
+-- A large buffer has room for a batch of answers, and there are no more requests than that. Assumes nothing.
 use borrow.Author.Needs.{needs}
 use mathlib.Core.Path.{_≡_, _∙_}
 use mathlib.Core.List.{List}
 use Prim.Native.Nat.{ℕ, _/_, _≤_}
 use native.Mathlib.Omega.{arith}
 use lib.ListN.{length, take, length-take}
-use lib.Ieee.{binary64}
+use Rattle.float.specs.Width.{F}
+use Rattle.record.specs.Layout.{requestSize}
 use Rattle.record.specs.Stream.{streamOf}
+use Rattle.answers.specs.Buffers.{room}
 use Rattle.answers.proofs.answer_whole.Statement.{statement}
 use Rattle.answers.proofs.answer_whole.Tie as tie
 
-counted : (total : ℕ) (buf out : List ℕ) → length buf ≡ 65536 → length out ≡ 65536 → total ≤ 38688 → streamOf binary64 (take total buf) out .count ≡ total / 104
+counted : (total : ℕ) (buf out : List ℕ) → length buf ≡ 65536 → length out ≡ 65536 → total ≤ room F → streamOf F (take total buf) out .count ≡ total / requestSize F
 unfolding streamOf
 counted total buf out h k l = simp length-take (omega arith)
 

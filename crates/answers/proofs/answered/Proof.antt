@@ -1,4 +1,4 @@
--- With n the whole requests among `total` bytes, less than one is left, and no more than 372 answers are written. Assumes nothing.
+-- With n the whole requests among `total` bytes, less than one is left, and no more than a batch of answers is written. Assumes nothing.
 use borrow.Author.Needs.{needs}
 use native.Mathlib.Omega.{arith}
 use lib.ListN.{length-take}

@@ -1,12 +1,14 @@
--- Each turn keeps less than a request and writes at most 372 answers, so their number has room to the last turn. Assumes nothing.
+-- Each turn keeps less than a request and writes at most a batch of answers, so their number has room to the last turn. Assumes nothing.
 use borrow.Author.Needs.{needs}
-use Prim.Native.Nat.{_+_, _*_, _≤_, _<_}
-use Rattle.answers.specs.Buffers.{Large}
+use Prim.Native.Nat.{_+_, _*_, _^_, _≤_, _<_}
+use Rattle.float.specs.Width.{F}
+use Rattle.record.specs.Layout.{requestSize}
+use Rattle.answers.specs.Buffers.{Large, batch}
 use Rattle.answers.proofs.main.Statement.{statement}
 use Rattle.answers.proofs.main.Tie as tie
 
 abbrev Inv-loop : tie.InvT-loop
-Inv-loop buf₀ out₀ have₀ written₀ turns₀ t7 buf out have written turns = Large buf × Large out × (have < 104) × (written + 372 * turns ≤ 3350678122763649024)
+Inv-loop buf₀ out₀ have₀ written₀ turns₀ t7 buf out have written turns = Large buf × Large out × (have < requestSize F) × (written + batch F * turns ≤ batch F * 2 ^ 53)
 
 abbrev μ-loop : tie.MeasureT-loop
 μ-loop buf₀ out₀ have₀ written₀ turns₀ t7 buf out have written turns = turns

@@ -2,7 +2,8 @@
 use mathlib.Core.Path.{_≡_, ap, _∙_}
 use mathlib.Core.List.{List}
 use borrow.Author.Needs.{needs}
-use lib.Ieee.{Float, binary64, div}
+use lib.Ieee.{Float, div}
+use Rattle.float.specs.Width.{F}
 use Rattle.matrix.specs.Places.{at}
 use Rattle.cholesky.specs.Factor.{factor2, second2Of, steps2Of}
 use Rattle.cholesky.proofs.Steps.{stops-first2, goes-first2, stops-second2, goes-second2}
@@ -24,10 +25,10 @@ abbrev l11 : tie.After-known-told → Float
 l11 c = c .before .p1 .given .0 .0
 
 abbrev l21 : tie.After-known-told → Float
-l21 c = div binary64 (at (a-of (start c)) 1) (l11 c)
+l21 c = div F (at (a-of (start c)) 1) (l11 c)
 
-first : (c : tie.After-known-told) → second2Of binary64 (l-of (start c)) (a-of (start c)) (l11 c) (l21 c) ≡ steps2Of binary64 (l-of (start c)) (a-of (start c))
-first c = goes-first2 binary64 (l-of (start c)) (a-of (start c)) (c .before .before .before .pivot-step .ensures) (c .before .p1 .given .1)
+first : (c : tie.After-known-told) → second2Of F (l-of (start c)) (a-of (start c)) (l11 c) (l21 c) ≡ steps2Of F (l-of (start c)) (a-of (start c))
+first c = goes-first2 F (l-of (start c)) (a-of (start c)) (c .before .before .before .pivot-step .ensures) (c .before .p1 .given .1)
 
 array-read-pivot-step : tie.Need-array-read-pivot-step
 array-read-pivot-step c = search needs
@@ -47,7 +48,7 @@ stopped-requires c κs = search needs
 returns : tie.Need-returns
 returns c =
     let s = c .before .before .before .before .before .before in
-    c .stopped .ensures ∙ ap factor2 (stops-first2 binary64 (l-of s) (a-of s) (c .before .before .before .pivot-step .ensures) (c .before .enum-told .given .1))
+    c .stopped .ensures ∙ ap factor2 (stops-first2 F (l-of s) (a-of s) (c .before .before .before .pivot-step .ensures) (c .before .enum-told .given .1))
 
 array-read-l21 : tie.Need-array-read-l21
 array-read-l21 c = search needs
@@ -74,7 +75,7 @@ returns-2 : tie.Need-returns-2
 returns-2 c =
     let k = c .before .before .before .before in
     let s = start k in
-    c .stopped2 .ensures ∙ ap factor2 (stops-second2 binary64 (l-of s) (a-of s) (l11 k) (l21 k) (c .before .before .before .pivot-step2 .ensures) (c .before .enum-told2 .given .1) ∙ first k)
+    c .stopped2 .ensures ∙ ap factor2 (stops-second2 F (l-of s) (a-of s) (l11 k) (l21 k) (c .before .before .before .pivot-step2 .ensures) (c .before .enum-told2 .given .1) ∙ first k)
 
 whole-requires : tie.Need-whole-requires
 whole-requires c κs = search needs
@@ -83,7 +84,7 @@ returns-3 : tie.Need-returns-3
 returns-3 c =
     let k = c .before .before .before .before .before in
     let s = start k in
-    c .whole .ensures ∙ ap factor2 (goes-second2 binary64 (l-of s) (a-of s) (l11 k) (l21 k) (c .before .before .before .before .pivot-step2 .ensures) (c .before .before .p2 .given .1) ∙ first k)
+    c .whole .ensures ∙ ap factor2 (goes-second2 F (l-of s) (a-of s) (l11 k) (l21 k) (c .before .before .before .before .pivot-step2 .ensures) (c .before .before .p2 .given .1) ∙ first k)
 
 pub steps-spec : {M : Type 1} → statement M
 steps-spec =

@@ -2,7 +2,8 @@
 use mathlib.Core.Path.{_≡_, ap, _∙_}
 use mathlib.Core.List.{List}
 use borrow.Author.Needs.{needs}
-use lib.Ieee.{Float, binary64, sub, mul, div}
+use lib.Ieee.{Float, sub, mul, div}
+use Rattle.float.specs.Width.{F}
 use Rattle.matrix.specs.Places.{at}
 use Rattle.cholesky.specs.Factor.{factor3, third3Of, second3Of, steps3Of}
 use Rattle.cholesky.proofs.Steps.{stops-first3, goes-first3, stops-second3, goes-second3, stops-third3, goes-third3}
@@ -24,10 +25,10 @@ abbrev l11 : tie.After-known-told → Float
 l11 c = c .before .p1 .given .0 .0
 
 abbrev l21 : tie.After-known-told → Float
-l21 c = div binary64 (at (a-of (start c)) 1) (l11 c)
+l21 c = div F (at (a-of (start c)) 1) (l11 c)
 
-first : (c : tie.After-known-told) → second3Of binary64 (l-of (start c)) (a-of (start c)) (l11 c) (l21 c) ≡ steps3Of binary64 (l-of (start c)) (a-of (start c))
-first c = goes-first3 binary64 (l-of (start c)) (a-of (start c)) (c .before .before .before .pivot-step .ensures) (c .before .p1 .given .1)
+first : (c : tie.After-known-told) → second3Of F (l-of (start c)) (a-of (start c)) (l11 c) (l21 c) ≡ steps3Of F (l-of (start c)) (a-of (start c))
+first c = goes-first3 F (l-of (start c)) (a-of (start c)) (c .before .before .before .pivot-step .ensures) (c .before .p1 .given .1)
 
 -- ---- after the second root
 
@@ -38,15 +39,15 @@ abbrev l22 : tie.After-known-told2 → Float
 l22 c = c .before .p2 .given .0 .0
 
 abbrev l31 : tie.After-known-told2 → Float
-l31 c = div binary64 (at (a-of (start (one c))) 3) (l11 (one c))
+l31 c = div F (at (a-of (start (one c))) 3) (l11 (one c))
 
 abbrev l32 : tie.After-known-told2 → Float
-l32 c = div binary64 (sub binary64 (at (a-of (start (one c))) 4) (mul binary64 (l21 (one c)) (l31 c))) (l22 c)
+l32 c = div F (sub F (at (a-of (start (one c))) 4) (mul F (l21 (one c)) (l31 c))) (l22 c)
 
 second : (c : tie.After-known-told2) →
-    third3Of binary64 (l-of (start (one c))) (a-of (start (one c))) (l11 (one c)) (l21 (one c)) (l22 c) (l31 c) (l32 c) ≡ steps3Of binary64 (l-of (start (one c))) (a-of (start (one c)))
+    third3Of F (l-of (start (one c))) (a-of (start (one c))) (l11 (one c)) (l21 (one c)) (l22 c) (l31 c) (l32 c) ≡ steps3Of F (l-of (start (one c))) (a-of (start (one c)))
 second c =
-    goes-second3 binary64 (l-of (start (one c))) (a-of (start (one c))) (l11 (one c)) (l21 (one c)) (c .before .before .before .pivot-step2 .ensures) (c .before .p2 .given .1)
+    goes-second3 F (l-of (start (one c))) (a-of (start (one c))) (l11 (one c)) (l21 (one c)) (c .before .before .before .pivot-step2 .ensures) (c .before .p2 .given .1)
     ∙ first (one c)
 
 array-read-pivot-step : tie.Need-array-read-pivot-step
@@ -67,7 +68,7 @@ stopped-requires c κs = search needs
 returns : tie.Need-returns
 returns c =
     let s = c .before .before .before .before .before .before in
-    c .stopped .ensures ∙ ap factor3 (stops-first3 binary64 (l-of s) (a-of s) (c .before .before .before .pivot-step .ensures) (c .before .enum-told .given .1))
+    c .stopped .ensures ∙ ap factor3 (stops-first3 F (l-of s) (a-of s) (c .before .before .before .pivot-step .ensures) (c .before .enum-told .given .1))
 
 array-read-l21 : tie.Need-array-read-l21
 array-read-l21 c = search needs
@@ -103,7 +104,7 @@ returns-2 : tie.Need-returns-2
 returns-2 c =
     let k = c .before .before .before .before in
     let s = start k in
-    c .stopped2 .ensures ∙ ap factor3 (stops-second3 binary64 (l-of s) (a-of s) (l11 k) (l21 k) (c .before .before .before .pivot-step2 .ensures) (c .before .enum-told2 .given .1) ∙ first k)
+    c .stopped2 .ensures ∙ ap factor3 (stops-second3 F (l-of s) (a-of s) (l11 k) (l21 k) (c .before .before .before .pivot-step2 .ensures) (c .before .enum-told2 .given .1) ∙ first k)
 
 array-read-l31 : tie.Need-array-read-l31
 array-read-l31 c = search needs
@@ -133,7 +134,7 @@ returns-3 : tie.Need-returns-3
 returns-3 c =
     let k = c .before .before .before .before in
     let s = start (one k) in
-    c .stopped3 .ensures ∙ ap factor3 (stops-third3 binary64 (l-of s) (a-of s) (l11 (one k)) (l21 (one k)) (l22 k) (l31 k) (l32 k) (c .before .before .before .pivot-step3 .ensures) (c .before .enum-told3 .given .1) ∙ second k)
+    c .stopped3 .ensures ∙ ap factor3 (stops-third3 F (l-of s) (a-of s) (l11 (one k)) (l21 (one k)) (l22 k) (l31 k) (l32 k) (c .before .before .before .pivot-step3 .ensures) (c .before .enum-told3 .given .1) ∙ second k)
 
 whole-requires : tie.Need-whole-requires
 whole-requires c κs = search needs
@@ -142,7 +143,7 @@ returns-4 : tie.Need-returns-4
 returns-4 c =
     let k = c .before .before .before .before .before in
     let s = start (one k) in
-    c .whole .ensures ∙ ap factor3 (goes-third3 binary64 (l-of s) (a-of s) (l11 (one k)) (l21 (one k)) (l22 k) (l31 k) (l32 k) (c .before .before .before .before .pivot-step3 .ensures) (c .before .before .p3 .given .1) ∙ second k)
+    c .whole .ensures ∙ ap factor3 (goes-third3 F (l-of s) (a-of s) (l11 (one k)) (l21 (one k)) (l22 k) (l31 k) (l32 k) (c .before .before .before .before .pivot-step3 .ensures) (c .before .before .p3 .given .1) ∙ second k)
 
 pub steps-spec : {M : Type 1} → statement M
 steps-spec =

@@ -2,7 +2,8 @@
 use mathlib.Core.Path.{_≡_}
 use mathlib.Core.Bool.{true, false}
 use borrow.Author.Needs.{needs}
-use lib.Ieee.{binary64, le}
+use lib.Ieee.{le}
+use Rattle.float.specs.Width.{F}
 use Rattle.float.specs.Constants.{zeroF}
 use Rattle.cholesky.specs.Pivot.{pivotOf}
 use Rattle.cholesky.proofs.pivot.pivot_step.Statement.{statement}
@@ -14,13 +15,13 @@ root-requires c κs = search needs
 returns : tie.Need-returns
 unfolding pivotOf
 returns c =
-    let refused : le (c .before .args .t) (zeroF binary64) ≡ true = c .if1 .taken in
+    let refused : le (c .before .args .t) (zeroF F) ≡ true = c .if1 .taken in
     rw refused
 
 returns-2 : tie.Need-returns-2
 unfolding pivotOf
 returns-2 c =
-    let passed : le (c .before .before .args .t) (zeroF binary64) ≡ false = c .before .if1 .left in
+    let passed : le (c .before .before .args .t) (zeroF F) ≡ false = c .before .if1 .left in
     rw (passed, c .root .ensures .is)
 
 pub pivot-step-spec : {M : Type 1} → statement M

@@ -1,6 +1,6 @@
 -- The pair's magnitude and the limit are those of the definition. Assumes nothing.
 use borrow.Author.Needs.{needs}
-use lib.Ieee.{binary64}
+use Rattle.float.specs.Width.{F}
 use Rattle.eigen.proofs.Turns.{tested}
 use Rattle.eigen.proofs.eigen3x3.is_settled.Statement.{statement}
 use Rattle.eigen.proofs.eigen3x3.is_settled.Tie as tie
@@ -12,7 +12,7 @@ limit-requires : tie.Need-limit-requires
 limit-requires c κs = search needs
 
 returns : tie.Need-returns
-returns c = tested binary64 _ (c .before .before .find-largest-off-diag .ensures) (c .before .limit .ensures)
+returns c = tested F _ (c .before .before .find-largest-off-diag .ensures) (c .before .limit .ensures)
 
 pub is-settled-spec : {M : Type 1} → statement M
 is-settled-spec = tie.close (tie.spec find-largest-off-diag-requires limit-requires returns)

@@ -4,7 +4,7 @@ use mathlib.Core.Bool.{Bool}
 use Prim.Native.Nat.{ℕ, _+_, _-_, _≤_}
 use native.Mathlib.Omega.{arith}
 use borrow.Author.Needs.{needs}
-use lib.Ieee.{binary64}
+use Rattle.float.specs.Width.{F}
 use Rattle.matrix.specs.declared.square.Mat3.{Mat3}
 use Rattle.matrix.specs.declared.symmetric.Sym3.{Sym3}
 use Rattle.eigen.specs.Eigen3x3.{State, working, settledOf, stepOf, workOf, startOf}
@@ -17,10 +17,10 @@ abbrev state : Sym3 → Mat3 → ℕ → State
 state b v n = record { matrix = b .«data»; vectors = v .«data»; count = n }
 
 abbrev done : State → Bool
-done s = settledOf binary64 (s .matrix)
+done s = settledOf F (s .matrix)
 
 abbrev Inv-loop : tie.InvT-loop
-Inv-loop b₀ v₀ count₀ b v count = (count ≤ 25) × (workOf binary64 (25 - count) (state b v count) ≡ workOf binary64 25 (startOf binary64 (b₀ .«data»)))
+Inv-loop b₀ v₀ count₀ b v count = (count ≤ 25) × (workOf F (25 - count) (state b v count) ≡ workOf F 25 (startOf F (b₀ .«data»)))
 
 abbrev μ-loop : tie.MeasureT-loop
 μ-loop b₀ v₀ count₀ b v count = 25 - count
@@ -44,8 +44,8 @@ returns : tie.Need-returns Inv-loop μ-loop
 unfolding workOf
 returns c =
     let l = c .before .before .before .before .before .loop in
-    let h = sym (tested binary64 (l .b .«data») (c .before .before .before .find-largest-off-diag .ensures) (c .before .before .limit .ensures)) ∙ c .if1 .taken in
-    ap working (leaves (stepOf binary64) done 25 (l .count) (state (l .b) (l .v) (l .count)) h (l .inv .1))
+    let h = sym (tested F (l .b .«data») (c .before .before .before .find-largest-off-diag .ensures) (c .before .before .limit .ensures)) ∙ c .if1 .taken in
+    ap working (leaves (stepOf F) done 25 (l .count) (state (l .b) (l .v) (l .count)) h (l .inv .1))
 
 rotate-pair-requires : tie.Need-rotate-pair-requires Inv-loop μ-loop
 rotate-pair-requires c κs = search needs
@@ -64,17 +64,17 @@ unfolding workOf
 loop-again c =
     let l = c .before .before .before .before .before .before .before .before .before .loop in
     let o = c .before .before .before .before .before .before .before .find-largest-off-diag .ensures in
-    let h = sym (tested binary64 (l .b .«data») o (c .before .before .before .before .before .before .limit .ensures)) ∙ c .before .before .before .before .if1 .left in (
+    let h = sym (tested F (l .b .«data») o (c .before .before .before .before .before .before .limit .ensures)) ∙ c .before .before .before .before .if1 .left in (
       omega arith,
-      ap (workOf binary64 (25 - (l .count + 1))) (next-state binary64 (l .b .«data») o (l .count) (c .before .before .before .rotate-pair .ensures) (l .v .«data») (c .update-eigenvectors .ensures))
-          ∙ turns-once (stepOf binary64) done 25 (l .count) (state (l .b) (l .v) (l .count)) (omega arith) h (l .inv .1),
+      ap (workOf F (25 - (l .count + 1))) (next-state F (l .b .«data») o (l .count) (c .before .before .before .rotate-pair .ensures) (l .v .«data») (c .update-eigenvectors .ensures))
+          ∙ turns-once (stepOf F) done 25 (l .count) (state (l .b) (l .v) (l .count)) (omega arith) h (l .inv .1),
     )
 
 returns-2 : tie.Need-returns-2 Inv-loop μ-loop
 unfolding workOf
 returns-2 c =
     let l = c .before .loop in
-    ap working (used-up (stepOf binary64) done 25 (l .count) (state (l .b) (l .v) (l .count)) (omega arith) (l .inv .1))
+    ap working (used-up (stepOf F) done 25 (l .count) (state (l .b) (l .v) (l .count)) (omega arith) (l .inv .1))
 
 pub work-spec : {M : Type 1} → statement M
 work-spec =

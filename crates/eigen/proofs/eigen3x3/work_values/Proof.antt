@@ -4,7 +4,7 @@ use mathlib.Core.Bool.{Bool}
 use Prim.Native.Nat.{ℕ, _+_, _-_, _≤_}
 use native.Mathlib.Omega.{arith}
 use borrow.Author.Needs.{needs}
-use lib.Ieee.{binary64}
+use Rattle.float.specs.Width.{F}
 use Rattle.matrix.specs.declared.symmetric.Sym3.{Sym3}
 use Rattle.eigen.specs.Eigen3x3.{BareState, bare, settledOf, bareStepOf, bareWorkOf, bareStartOf}
 use Rattle.eigen.proofs.Run.{leaves, turns-once, used-up}
@@ -16,10 +16,10 @@ abbrev state : Sym3 → ℕ → BareState
 state b n = record { matrix = b .«data»; count = n }
 
 abbrev done : BareState → Bool
-done s = settledOf binary64 (s .matrix)
+done s = settledOf F (s .matrix)
 
 abbrev Inv-loop : tie.InvT-loop
-Inv-loop b₀ count₀ b count = (count ≤ 25) × (bareWorkOf binary64 (25 - count) (state b count) ≡ bareWorkOf binary64 25 (bareStartOf (b₀ .«data»)))
+Inv-loop b₀ count₀ b count = (count ≤ 25) × (bareWorkOf F (25 - count) (state b count) ≡ bareWorkOf F 25 (bareStartOf (b₀ .«data»)))
 
 abbrev μ-loop : tie.MeasureT-loop
 μ-loop b₀ count₀ b count = 25 - count
@@ -37,8 +37,8 @@ returns : tie.Need-returns Inv-loop μ-loop
 unfolding bareWorkOf
 returns c =
     let l = c .before .before .before .before .before .loop in
-    let h = sym (tested binary64 (l .b .«data») (c .before .before .before .find-largest-off-diag .ensures) (c .before .before .limit .ensures)) ∙ c .if1 .taken in
-    ap bare (leaves (bareStepOf binary64) done 25 (l .count) (state (l .b) (l .count)) h (l .inv .1))
+    let h = sym (tested F (l .b .«data») (c .before .before .before .find-largest-off-diag .ensures) (c .before .before .limit .ensures)) ∙ c .if1 .taken in
+    ap bare (leaves (bareStepOf F) done 25 (l .count) (state (l .b) (l .count)) h (l .inv .1))
 
 rotate-pair-requires : tie.Need-rotate-pair-requires Inv-loop μ-loop
 rotate-pair-requires c κs = search needs
@@ -54,17 +54,17 @@ unfolding bareWorkOf
 loop-again c =
     let l = c .before .before .before .before .before .before .before .loop in
     let o = c .before .before .before .before .before .find-largest-off-diag .ensures in
-    let h = sym (tested binary64 (l .b .«data») o (c .before .before .before .before .limit .ensures)) ∙ c .before .before .if1 .left in (
+    let h = sym (tested F (l .b .«data») o (c .before .before .before .before .limit .ensures)) ∙ c .before .before .if1 .left in (
       omega arith,
-      ap (bareWorkOf binary64 (25 - (l .count + 1))) (next-bare binary64 (l .b .«data») o (l .count) (c .before .rotate-pair .ensures))
-          ∙ turns-once (bareStepOf binary64) done 25 (l .count) (state (l .b) (l .count)) (omega arith) h (l .inv .1),
+      ap (bareWorkOf F (25 - (l .count + 1))) (next-bare F (l .b .«data») o (l .count) (c .before .rotate-pair .ensures))
+          ∙ turns-once (bareStepOf F) done 25 (l .count) (state (l .b) (l .count)) (omega arith) h (l .inv .1),
     )
 
 returns-2 : tie.Need-returns-2 Inv-loop μ-loop
 unfolding bareWorkOf
 returns-2 c =
     let l = c .before .loop in
-    ap bare (used-up (bareStepOf binary64) done 25 (l .count) (state (l .b) (l .count)) (omega arith) (l .inv .1))
+    ap bare (used-up (bareStepOf F) done 25 (l .count) (state (l .b) (l .count)) (omega arith) (l .inv .1))
 
 pub work-values-spec : {M : Type 1} → statement M
 work-values-spec =

@@ -1,7 +1,7 @@
 -- The code's three tests are those of the definition, since `larger` and `magnitude` answer by its names; each return is one way through the choice. Assumes nothing.
 use mathlib.Core.Path.{_≡_, sym, ap, _∙_}
 use borrow.Author.Needs.{needs}
-use lib.Ieee.{binary64}
+use Rattle.float.specs.Width.{F}
 use Rattle.eigen.specs.Rotation.{rotation, diagonalOf, turnBy}
 use Rattle.eigen.proofs.Chosen.{stays, tiny, level, turns}
 use Rattle.eigen.proofs.rotation.compute_jacobi_rotation.Statement.{statement}
@@ -10,7 +10,7 @@ use Rattle.eigen.proofs.rotation.compute_jacobi_rotation.Tie as tie
 returns : tie.Need-returns
 returns c =
     let a = c .before .args in
-    ap rotation (sym (stays binary64 (a .apq) (a .app) (a .aqq) (c .if1 .taken)))
+    ap rotation (sym (stays F (a .apq) (a .app) (a .aqq) (c .if1 .taken)))
 
 magnitude-requires : tie.Need-magnitude-requires
 magnitude-requires c κs = search needs
@@ -27,7 +27,7 @@ larger-diagonal c = simp (c .larger .ensures, c .before .magnitude2 .ensures, c 
 returns-2 : tie.Need-returns-2
 returns-2 c =
     let a = c .before .before .before .before .before .args in
-    ap rotation (sym (tiny binary64 (a .apq) (a .app) (a .aqq) (c .before .before .before .before .if1 .left) (rw (larger-diagonal (c .before)) at (c .if2 .taken))))
+    ap rotation (sym (tiny F (a .apq) (a .app) (a .aqq) (c .before .before .before .before .if1 .left) (rw (larger-diagonal (c .before)) at (c .if2 .taken))))
 
 magnitude-requires-3 : tie.Need-magnitude-requires-3
 magnitude-requires-3 c κs = search needs
@@ -38,7 +38,7 @@ returns-3 c =
     let d = larger-diagonal (c .before .before .before) in
     ap rotation
     (sym
-    (level binary64 (a .apq) (a .app) (a .aqq) (c .before .before .before .before .before .before .if1 .left) (rw d at (c .before .before .if2 .left))
+    (level F (a .apq) (a .app) (a .aqq) (c .before .before .before .before .before .before .if1 .left) (rw d at (c .before .before .if2 .left))
     (rw (d, c .before .magnitude3 .ensures) at (c .if3 .taken))))
 
 tangent-requires : tie.Need-tangent-requires
@@ -53,9 +53,9 @@ returns-4 c =
     let d = larger-diagonal (c .before .before .before .before .before) in
     c .turned-by .ensures
     ∙ ap rotation
-    (ap (turnBy binary64) (c .before .tangent .ensures)
+    (ap (turnBy F) (c .before .tangent .ensures)
     ∙ sym
-    (turns binary64 (a .apq) (a .app) (a .aqq) (c .before .before .before .before .before .before .before .before .if1 .left) (rw d at (c .before .before .before .before .if2 .left))
+    (turns F (a .apq) (a .app) (a .aqq) (c .before .before .before .before .before .before .before .before .if1 .left) (rw d at (c .before .before .before .before .if2 .left))
     (rw (d, c .before .before .before .magnitude3 .ensures) at (c .before .before .if3 .left))))
 
 pub compute-jacobi-rotation-spec : {M : Type 1} → statement M

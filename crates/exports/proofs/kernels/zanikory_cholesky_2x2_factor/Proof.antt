@@ -4,7 +4,7 @@ use native.Mathlib.Omega.{arith}
 use borrow.Author.Needs.{needs}
 use borrow.Author.Tests.{eq-eqb, ne-eqb}
 use lib.ListN.{length}
-use lib.Ieee.{binary64}
+use Rattle.float.specs.Width.{F}
 use Rattle.cholesky.specs.Factor.{factor2, factor2Of}
 use Rattle.cholesky.specs.declared.cholesky2x2.Factor2.{Factor2}
 use Rattle.exports.specs.Kernels.{factor2Into}
@@ -50,7 +50,7 @@ returns-4 c =
     let m = c .before .before .before .before .before .before .before in
     let t = m .before .before .before in
     let a = t .before .before .before .before .before .before .args in
-    let e : m .cholesky-2x2-explicit-factor .result ≡ factor2 (factor2Of binary64 (a .l .now) (a .a .now)) =
+    let e : m .cholesky-2x2-explicit-factor .result ≡ factor2 (factor2Of F (a .l .now) (a .a .now)) =
     rw (m .before .before .sym2-of .ensures, m .before .sym2-of2 .ensures) at (m .cholesky-2x2-explicit-factor .ensures) in
     rw (eq-eqb _ 3 (t .before .before .if1 .left), eq-eqb _ 3 (t .before .if2 .left), eq-eqb _ 3 (t .if3 .left))
     (handed (λ (r : Factor2). r .code) (λ (r : Factor2). r .factor .«data») (c .before .before .put .ensures) e)

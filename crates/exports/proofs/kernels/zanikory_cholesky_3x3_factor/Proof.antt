@@ -4,7 +4,7 @@ use native.Mathlib.Omega.{arith}
 use borrow.Author.Needs.{needs}
 use borrow.Author.Tests.{eq-eqb, ne-eqb}
 use lib.ListN.{length}
-use lib.Ieee.{binary64}
+use Rattle.float.specs.Width.{F}
 use Rattle.cholesky.specs.Factor.{factor3, factor3Of}
 use Rattle.cholesky.specs.declared.cholesky3x3.Factor3.{Factor3}
 use Rattle.exports.specs.Kernels.{factor3Into}
@@ -50,7 +50,7 @@ returns-4 c =
     let m = c .before .before .before .before .before .before .before in
     let t = m .before .before .before in
     let a = t .before .before .before .before .before .before .args in
-    let e : m .cholesky-3x3-explicit-factor .result ≡ factor3 (factor3Of binary64 (a .l .now) (a .a .now)) =
+    let e : m .cholesky-3x3-explicit-factor .result ≡ factor3 (factor3Of F (a .l .now) (a .a .now)) =
     rw (m .before .before .sym3-of .ensures, m .before .sym3-of2 .ensures) at (m .cholesky-3x3-explicit-factor .ensures) in
     rw (eq-eqb _ 6 (t .before .before .if1 .left), eq-eqb _ 6 (t .before .if2 .left), eq-eqb _ 6 (t .if3 .left))
     (handed (λ (r : Factor3). r .code) (λ (r : Factor3). r .factor .«data») (c .before .before .put .ensures) e)

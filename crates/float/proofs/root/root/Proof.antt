@@ -2,7 +2,8 @@
 use mathlib.Core.Path.{ap, _∙_}
 use borrow.Author.Needs.{needs}
 use denote.Floats.{passes}
-use lib.Ieee.{binary64, ofBits}
+use lib.Ieee.{ofBits}
+use Rattle.float.specs.Width.{F}
 use Rattle.float.specs.Root.{rootOf, rootBitsOf}
 use Rattle.float.proofs.Patterns.{through-bits}
 use Rattle.float.proofs.Correct.{root-fits, promised}
@@ -23,10 +24,10 @@ returns c =
     let s = c .before .before .before in
     let x = s .args .x in
     let fit = passes _ (s .good .0 .1) in
-    promised binary64 x (c .of-bits .result) fit
+    promised F x (c .of-bits .result) fit
     (c .of-bits .ensures
-    ∙ ap (ofBits binary64) (c .before .root-bits .ensures ∙ ap (rootBitsOf binary64) (c .before .before .to-bits .ensures))
-    ∙ through-bits binary64 (rootOf binary64) x fit (root-fits binary64 x fit))
+    ∙ ap (ofBits F) (c .before .root-bits .ensures ∙ ap (rootBitsOf F) (c .before .before .to-bits .ensures))
+    ∙ through-bits F (rootOf F) x fit (root-fits F x fit))
 
 pub root-spec : {M : Type 1} → statement M
 root-spec = tie.close (tie.spec to-bits-requires root-bits-requires of-bits-requires returns)

@@ -6,8 +6,9 @@ use mathlib.Core.List.{List, [], _∷_}
 use Prim.Native.Nat.{ℕ}
 use native.Mathlib.Omega.{arith}
 use lib.ListN.{getD, replicate}
-use lib.Ieee.{binary64}
+use Rattle.float.specs.Width.{F}
 use Rattle.kinds.specs.declared.work.Worked.{Worked}
+use Rattle.record.specs.Layout.{requestSize, answerSize}
 use Rattle.record.specs.Request.{kindOf, judgedOf}
 use Rattle.record.specs.Answer.{ofWorked, recordOf, stepOf}
 use Rattle.record.proofs.Parts.{first-four}
@@ -16,7 +17,7 @@ use Rattle.record.proofs.answer.zanikory_answer_record.Tie as tie
 
 returns : tie.Need-returns
 unfolding stepOf
-returns c = rw (ne-eqb _ 176 (c .if1 .taken)) (refl, refl)
+returns c = rw (ne-eqb _ (answerSize F) (c .if1 .taken)) (refl, refl)
 
 refused-requires : tie.Need-refused-requires
 refused-requires c κs = search needs
@@ -32,8 +33,8 @@ unfolding stepOf
 returns-2 c =
     let w = c .before .before .before in
     let sizes = w .before .before in
-    rw (eq-eqb _ 176 (sizes .before .if1 .left), ne-eqb _ 104 (sizes .if2 .taken))
-    (refl, c .before .before .put-record .ensures ∙ ap (λ (r : Worked). recordOf binary64 (replicate 4 0) 0 (ofWorked r)) (w .refused .ensures))
+    rw (eq-eqb _ (answerSize F) (sizes .before .if1 .left), ne-eqb _ (requestSize F) (sizes .if2 .taken))
+    (refl, c .before .before .put-record .ensures ∙ ap (λ (r : Worked). recordOf F (replicate 4 0) 0 (ofWorked r)) (w .refused .ensures))
 
 judged-requires : tie.Need-judged-requires
 judged-requires c κs = search needs
@@ -65,11 +66,11 @@ returns-3 c =
     let w = c .before .before .before .before .before .before .before .before .before in
     let sizes = w .before in
     let s = sizes .before .before .before .before .args .request .now in
-    rw (eq-eqb _ 176 (sizes .before .if1 .left), eq-eqb _ 104 (sizes .if2 .left)) (
+    rw (eq-eqb _ (answerSize F) (sizes .before .if1 .left), eq-eqb _ (requestSize F) (sizes .if2 .left)) (
       ap (λ (r : Worked). r .code) (w .judged .ensures),
       c .before .before .put-record2 .ensures
-          ∙ ap (λ (r : Worked). recordOf binary64 (getD s 0 0 ∷ getD s 1 0 ∷ getD s 2 0 ∷ getD s 3 0 ∷ []) (kindOf s) (ofWorked r)) (w .judged .ensures)
-          ∙ ap (λ (e : List ℕ). recordOf binary64 e (kindOf s) (judgedOf binary64 s)) (first-four s (omega arith)),
+          ∙ ap (λ (r : Worked). recordOf F (getD s 0 0 ∷ getD s 1 0 ∷ getD s 2 0 ∷ getD s 3 0 ∷ []) (kindOf s) (ofWorked r)) (w .judged .ensures)
+          ∙ ap (λ (e : List ℕ). recordOf F e (kindOf s) (judgedOf F s)) (first-four s (omega arith)),
     )
 
 pub zanikory-answer-record-spec : {M : Type 1} → statement M

@@ -7,14 +7,15 @@ use native.Mathlib.Omega.{arith}
 use native.Mathlib.Nat.{add-zero}
 use lib.ListN.{length, take}
 use lib.Seq.{take-length}
-use lib.Ieee.{binary64}
+use Rattle.float.specs.Width.{F}
+use Rattle.record.specs.Layout.{numberBytes}
 use Rattle.record.specs.Bytes.{bytesOf, numberBytesOf}
 use Rattle.record.proofs.Numbers.{number-more}
 use Rattle.record.proofs.bytes.put_numbers.Statement.{statement}
 use Rattle.record.proofs.bytes.put_numbers.Tie as tie
 
 abbrev Inv-loop : tie.InvT-loop
-Inv-loop out₀ at xs i₀ out i = (i ≤ length xs) × (length out ≡ length out₀) × (take (at + 8 * i) out ≡ take at out₀ ++ numberBytesOf binary64 (take i xs))
+Inv-loop out₀ at xs i₀ out i = (i ≤ length xs) × (length out ≡ length out₀) × (take (at + numberBytes F * i) out ≡ take at out₀ ++ numberBytesOf F (take i xs))
 
 abbrev μ-loop : tie.MeasureT-loop
 μ-loop out₀ at xs i₀ out i = length xs - i
@@ -55,7 +56,7 @@ loop-again c =
     let a = c .before .before .before .before .before .before .before .before .before .before .args in (
       omega arith,
       omega arith,
-      number-more binary64 (c .before .before .put-word .last .0) (l .out) (a .out .now) (a .xs .now) (a .at) (l .i) (omega arith) (c .before .before .put-word .ensures ∙ ap (λ (w : ℕ). take (a .at + 8 * l .i) (l .out) ++ bytesOf 8 w) (c .before .before .before .to-bits .ensures)) (l .inv .2),
+      number-more F (c .before .before .put-word .last .0) (l .out) (a .out .now) (a .xs .now) (a .at) (l .i) (omega arith) (c .before .before .put-word .ensures ∙ ap (λ (w : ℕ). take (a .at + numberBytes F * l .i) (l .out) ++ bytesOf (numberBytes F) w) (c .before .before .before .to-bits .ensures)) (l .inv .2),
     )
 
 same-length : tie.Need-same-length Inv-loop μ-loop

@@ -6,19 +6,21 @@ use Prim.Native.Nat.{ℕ, _+_, _-_, _≤_}
 use native.Mathlib.Omega.{arith}
 use native.Mathlib.Nat.{add-zero}
 use lib.ListN.{length, take, length-set}
+use Rattle.float.specs.Width.{F}
+use Rattle.record.specs.Layout.{numberBytes}
 use Rattle.record.specs.Bytes.{bytesOf}
 use Rattle.record.proofs.Words.{bytes-more}
 use Rattle.record.proofs.bytes.put_word.Statement.{statement}
 use Rattle.record.proofs.bytes.put_word.Tie as tie
 
 abbrev Inv-loop : tie.InvT-loop
-Inv-loop out₀ at n rest₀ i₀ out rest i = (i ≤ 8) × (length out ≡ length out₀) × (take (at + i) out ++ bytesOf (8 - i) rest ≡ take at out₀ ++ bytesOf 8 n)
+Inv-loop out₀ at n rest₀ i₀ out rest i = (i ≤ numberBytes F) × (length out ≡ length out₀) × (take (at + i) out ++ bytesOf (numberBytes F - i) rest ≡ take at out₀ ++ bytesOf (numberBytes F) n)
 
 abbrev μ-loop : tie.MeasureT-loop
-μ-loop out₀ at n rest₀ i₀ out rest i = 8 - i
+μ-loop out₀ at n rest₀ i₀ out rest i = numberBytes F - i
 
 loop-holds : tie.Need-loop-holds Inv-loop μ-loop
-loop-holds c = let a = c .args in (omega arith, refl, ap (λ (k : ℕ). take k (a .out .now) ++ bytesOf 8 (a .n)) (add-zero (a .at)))
+loop-holds c = let a = c .args in (omega arith, refl, ap (λ (k : ℕ). take k (a .out .now) ++ bytesOf (numberBytes F) (a .n)) (add-zero (a .at)))
 
 cast-out : tie.Need-cast-out Inv-loop μ-loop
 cast-out c = search needs
@@ -39,7 +41,7 @@ loop-again : tie.Need-loop-again Inv-loop μ-loop
 loop-again c =
     let l = c .before .loop in
     let a = c .before .before .args in
-    (omega arith, simp length-set (omega arith), bytes-more (l .out) _ (a .at + l .i) (a .at + (l .i + 1)) (8 - l .i) (8 - (l .i + 1)) (l .rest) (omega arith) (omega arith) (omega arith) (l .inv .2))
+    (omega arith, simp length-set (omega arith), bytes-more (l .out) _ (a .at + l .i) (a .at + (l .i + 1)) (numberBytes F - l .i) (numberBytes F - (l .i + 1)) (l .rest) (omega arith) (omega arith) (omega arith) (l .inv .2))
 
 same-length : tie.Need-same-length Inv-loop μ-loop
 same-length c = search needs
@@ -49,8 +51,8 @@ unfolding bytesOf
 returns c =
     let l = c .before .loop in
     let a = c .before .before .args in
-    let e : l .i ≡ 8 = omega arith in
-    sym (append-nil (take (a .at + 8) (l .out))) ∙ (rw e at (l .inv .2))
+    let e : l .i ≡ numberBytes F = omega arith in
+    sym (append-nil (take (a .at + numberBytes F) (l .out))) ∙ (rw e at (l .inv .2))
 
 pub put-word-spec : {M : Type 1} → statement M
 put-word-spec =

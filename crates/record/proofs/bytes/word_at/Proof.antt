@@ -4,13 +4,15 @@ use mathlib.Core.Path.{_≡_, refl, _∙_, ap}
 use Prim.Native.Nat.{ℕ, _+_, _-_, _^_, _≤_, _<_}
 use native.Mathlib.Omega.{arith}
 use native.Mathlib.Nat.{add-zero}
+use Rattle.float.specs.Width.{F}
+use Rattle.record.specs.Layout.{numberBytes}
 use Rattle.record.specs.Bytes.{wordOf, part}
 use Rattle.record.proofs.Words.{word-more, word-grows, word-fits}
 use Rattle.record.proofs.bytes.word_at.Statement.{statement}
 use Rattle.record.proofs.bytes.word_at.Tie as tie
 
 abbrev Inv-loop : tie.InvT-loop
-Inv-loop s at w₀ i₀ w i = (i ≤ 8) × (w ≡ wordOf (part (at + i) (8 - i) s)) × (w < 256 ^ (8 - i))
+Inv-loop s at w₀ i₀ w i = (i ≤ numberBytes F) × (w ≡ wordOf (part (at + i) (numberBytes F - i) s)) × (w < 256 ^ (numberBytes F - i))
 
 abbrev μ-loop : tie.MeasureT-loop
 μ-loop s at w₀ i₀ w i = i
@@ -23,7 +25,7 @@ sub-i : tie.Need-sub-i Inv-loop μ-loop
 sub-i c = search needs
 
 mul-w : tie.Need-mul-w Inv-loop μ-loop
-mul-w c = let l = c .before .loop in omega (arith, word-fits _ _ (omega arith) (word-grows (8 - l .i) (9 - l .i) (l .w) 0 (omega arith) (l .inv .2) (omega arith)))
+mul-w c = let l = c .before .loop in omega (arith, word-fits _ _ (omega arith) (word-grows (numberBytes F - l .i) (numberBytes F + 1 - l .i) (l .w) 0 (omega arith) (l .inv .2) (omega arith)))
 
 add-wide : tie.Need-add-wide Inv-loop μ-loop
 add-wide c = search needs
@@ -35,7 +37,7 @@ wide-requires : tie.Need-wide-requires Inv-loop μ-loop
 wide-requires c κs = search needs
 
 add-w : tie.Need-add-w Inv-loop μ-loop
-add-w c = let l = c .before .before .before .loop in omega (arith, word-fits _ _ (omega arith) (word-grows (8 - l .i) (9 - l .i) (l .w) (c .wide .result) (omega arith) (l .inv .2) (c .wide .ensures .1)))
+add-w c = let l = c .before .before .before .loop in omega (arith, word-fits _ _ (omega arith) (word-grows (numberBytes F - l .i) (numberBytes F + 1 - l .i) (l .w) (c .wide .result) (omega arith) (l .inv .2) (c .wide .ensures .1)))
 
 loop-less : tie.Need-loop-less Inv-loop μ-loop
 loop-less c = search needs
@@ -45,8 +47,8 @@ loop-again c =
     let l = c .before .before .before .loop in
     let a = c .before .before .before .before .before .args in (
       omega arith,
-      word-more (a .s .now) (a .at + (l .i - 1)) (a .at + l .i) (8 - l .i) (8 - (l .i - 1)) (l .w) (c .wide .result) (omega arith) (omega arith) (omega arith) (c .wide .ensures .0) (l .inv .1),
-      word-grows (8 - l .i) (8 - (l .i - 1)) (l .w) (c .wide .result) (omega arith) (l .inv .2) (c .wide .ensures .1),
+      word-more (a .s .now) (a .at + (l .i - 1)) (a .at + l .i) (numberBytes F - l .i) (numberBytes F - (l .i - 1)) (l .w) (c .wide .result) (omega arith) (omega arith) (omega arith) (c .wide .ensures .0) (l .inv .1),
+      word-grows (numberBytes F - l .i) (numberBytes F - (l .i - 1)) (l .w) (c .wide .result) (omega arith) (l .inv .2) (c .wide .ensures .1),
     )
 
 returns : tie.Need-returns Inv-loop μ-loop
@@ -54,7 +56,7 @@ returns c =
     let l = c .before .loop in
     let a = c .before .before .before .args in
     let e : l .i ≡ 0 = omega arith in
-    l .inv .1 ∙ ap (λ (k : ℕ). wordOf (part (a .at + k) (8 - k) (a .s .now))) e ∙ ap (λ (k : ℕ). wordOf (part k 8 (a .s .now))) (add-zero (a .at))
+    l .inv .1 ∙ ap (λ (k : ℕ). wordOf (part (a .at + k) (numberBytes F - k) (a .s .now))) e ∙ ap (λ (k : ℕ). wordOf (part k (numberBytes F) (a .s .now))) (add-zero (a .at))
 
 pub word-at-spec : {M : Type 1} → statement M
 word-at-spec =

@@ -3,7 +3,7 @@ use borrow.Author.Needs.{needs}
 use borrow.Author.Tests.{eq-eqb, ne-eqb}
 use mathlib.Core.Path.{_≡_, sym, _∙_}
 use mathlib.Core.Bool.{true, false}
-use lib.Ieee.{binary64}
+use Rattle.float.specs.Width.{F}
 use Rattle.record.specs.Request.{kindOf, usedFinite, judgedOf}
 use Rattle.record.proofs.Used.{used-first}
 use Rattle.record.proofs.request.judged.Statement.{statement}
@@ -39,7 +39,7 @@ unfolding judgedOf
 returns-2 c =
     let numbers = c .before .before .before in
     let s = numbers .before .before .before .before .before .before .args .s .now in
-    let used : usedFinite binary64 (kindOf s) s ≡ true = sym (used-first binary64 (kindOf s) s) ∙ (cc (c .before .before .used-finite .ensures, c .before .if2 .taken, numbers .numbers3 .ensures, numbers .before .numbers9 .ensures)) in
+    let used : usedFinite F (kindOf s) s ≡ true = sym (used-first F (kindOf s) s) ∙ (cc (c .before .before .used-finite .ensures, c .before .if2 .taken, numbers .numbers3 .ensures, numbers .before .numbers9 .ensures)) in
     rw (← numbers .before .before .before .before .form-of .ensures, eq-eqb _ 0 (numbers .before .before .before .if1 .left), used) (rw (← numbers .before .numbers9 .ensures, ← numbers .numbers3 .ensures) (c .work .ensures))
 
 refused-requires-2 : tie.Need-refused-requires-2
@@ -50,7 +50,7 @@ unfolding judgedOf
 returns-3 c =
     let numbers = c .before .before .before in
     let s = numbers .before .before .before .before .before .before .args .s .now in
-    let used : usedFinite binary64 (kindOf s) s ≡ false = sym (used-first binary64 (kindOf s) s) ∙ (cc (c .before .before .used-finite .ensures, c .before .if2 .left, numbers .numbers3 .ensures, numbers .before .numbers9 .ensures)) in
+    let used : usedFinite F (kindOf s) s ≡ false = sym (used-first F (kindOf s) s) ∙ (cc (c .before .before .used-finite .ensures, c .before .if2 .left, numbers .numbers3 .ensures, numbers .before .numbers9 .ensures)) in
     rw (← numbers .before .before .before .before .form-of .ensures, eq-eqb _ 0 (numbers .before .before .before .if1 .left), used) (c .refused2 .ensures)
 
 pub judged-spec : {M : Type 1} → statement M

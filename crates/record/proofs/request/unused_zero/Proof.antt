@@ -4,7 +4,9 @@ use mathlib.Core.Path.{_≡_, sym, ap, _∙_}
 use mathlib.Core.Bool.{true, false}
 use Prim.Native.Nat.{ℕ, _+_, _*_, _≤_}
 use native.Mathlib.Omega.{arith}
+use Rattle.float.specs.Width.{F}
 use Rattle.kinds.specs.Slots.{nineUsed}
+use Rattle.record.specs.Layout.{wayAt, nineAt, threeAt, placeOf, requestSize}
 use Rattle.record.specs.Bytes.{zeroFrom}
 use Rattle.kinds.proofs.Most.{nine-most, three-most}
 use Rattle.record.proofs.request.unused_zero.Statement.{statement}
@@ -47,18 +49,18 @@ returns : tie.Need-returns
 returns c =
     let three = c .before .before .before .before .before in
     let a = three .before .before .before .args in
-    let reserved : zeroFrom 5 8 (a .s .now) ≡ true = sym (c .before .before .before .before .zeros-in .ensures) ∙ c .before .before .before .if1 .taken in
-    let nine : zeroFrom (8 + 8 * nineUsed (a .kind)) 80 (a .s .now) ≡ true =
-    ap (λ (n : ℕ). zeroFrom (8 + 8 * n) 80 (a .s .now)) (sym (three .before .nine-used .ensures)) ∙ sym (c .before .before .zeros-in2 .ensures) ∙ c .before .if2 .taken in
-    rw (reserved, nine) (c .zeros-in3 .ensures ∙ ap (λ (n : ℕ). zeroFrom (80 + 8 * n) 104 (a .s .now)) (three .three-used .ensures))
+    let reserved : zeroFrom wayAt nineAt (a .s .now) ≡ true = sym (c .before .before .before .before .zeros-in .ensures) ∙ c .before .before .before .if1 .taken in
+    let nine : zeroFrom (placeOf F nineAt (nineUsed (a .kind))) (threeAt F) (a .s .now) ≡ true =
+    ap (λ (n : ℕ). zeroFrom (placeOf F nineAt n) (threeAt F) (a .s .now)) (sym (three .before .nine-used .ensures)) ∙ sym (c .before .before .zeros-in2 .ensures) ∙ c .before .if2 .taken in
+    rw (reserved, nine) (c .zeros-in3 .ensures ∙ ap (λ (n : ℕ). zeroFrom (placeOf F (threeAt F) n) (requestSize F) (a .s .now)) (three .three-used .ensures))
 
 returns-2 : tie.Need-returns-2
 returns-2 c =
     let three = c .before .before .before .before in
     let a = three .before .before .before .args in
-    let reserved : zeroFrom 5 8 (a .s .now) ≡ true = sym (c .before .before .before .zeros-in .ensures) ∙ c .before .before .if1 .taken in
-    let nine : zeroFrom (8 + 8 * nineUsed (a .kind)) 80 (a .s .now) ≡ false =
-    ap (λ (n : ℕ). zeroFrom (8 + 8 * n) 80 (a .s .now)) (sym (three .before .nine-used .ensures)) ∙ sym (c .before .zeros-in2 .ensures) ∙ c .if2 .left in
+    let reserved : zeroFrom wayAt nineAt (a .s .now) ≡ true = sym (c .before .before .before .zeros-in .ensures) ∙ c .before .before .if1 .taken in
+    let nine : zeroFrom (placeOf F nineAt (nineUsed (a .kind))) (threeAt F) (a .s .now) ≡ false =
+    ap (λ (n : ℕ). zeroFrom (placeOf F nineAt n) (threeAt F) (a .s .now)) (sym (three .before .nine-used .ensures)) ∙ sym (c .before .zeros-in2 .ensures) ∙ c .if2 .left in
     rw (reserved, nine)
 
 returns-3 : tie.Need-returns-3

@@ -4,14 +4,15 @@ use mathlib.Core.Path.{_≡_, refl, sym, _∙_}
 use Prim.Native.Nat.{_-_, _*_, _≤_}
 use native.Mathlib.Omega.{arith}
 use lib.ListN.{length, take, drop, take-append-drop}
-use lib.Ieee.{binary64}
+use Rattle.float.specs.Width.{F}
+use Rattle.record.specs.Layout.{answerSize}
 use Rattle.record.specs.Stream.{answersOf, streamOf}
 use Rattle.record.proofs.Streams.{answer-more, rest-more}
 use Rattle.record.proofs.stream.answer_all.Statement.{statement}
 use Rattle.record.proofs.stream.answer_all.Tie as tie
 
 abbrev Inv-loop : tie.InvT-loop
-Inv-loop requests answers₀ n i₀ answers i = (i ≤ n) × (length answers ≡ length answers₀) × (take (176 * i) answers ≡ answersOf binary64 i requests) × (drop (176 * i) answers ≡ drop (176 * i) answers₀)
+Inv-loop requests answers₀ n i₀ answers i = (i ≤ n) × (length answers ≡ length answers₀) × (take (answerSize F * i) answers ≡ answersOf F i requests) × (drop (answerSize F * i) answers ≡ drop (answerSize F * i) answers₀)
 
 abbrev μ-loop : tie.MeasureT-loop
 μ-loop requests answers₀ n i₀ answers i = n - i
@@ -52,7 +53,7 @@ returns c =
     let n = c .before .before .whole-records in
     let a = c .before .before .before .before .before .args in
     let e : l .i ≡ n .result = omega arith in
-    (n .ensures, sym (take-append-drop (176 * l .i) (l .answers)) ∙ (rw (l .inv .2, l .inv .3, e, n .ensures)))
+    (n .ensures, sym (take-append-drop (answerSize F * l .i) (l .answers)) ∙ (rw (l .inv .2, l .inv .3, e, n .ensures)))
 
 pub answer-all-spec : {M : Type 1} → statement M
 answer-all-spec =

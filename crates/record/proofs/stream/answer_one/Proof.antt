@@ -5,7 +5,8 @@ use Prim.Native.Nat.{ℕ, _+_, _-_, _*_}
 use native.Mathlib.Omega.{arith}
 use lib.ListN.{length, take, drop, length-take, length-drop}
 use lib.Seq.{drop-drop}
-use lib.Ieee.{binary64}
+use Rattle.float.specs.Width.{F}
+use Rattle.record.specs.Layout.{requestSize, answerSize}
 use Rattle.record.specs.Answer.{answeredOf}
 use Rattle.record.proofs.Streams.{stepped, before-part, behind-part}
 use Rattle.record.proofs.stream.answer_one.Statement.{statement}
@@ -52,15 +53,15 @@ returns c =
     let step = c .before .before .zanikory-answer-record in
     let start = c .before .before .before .before .before .before .before in
     let a = start .args in
-    let b = 176 * a .i in
-    let n : (b + 176) - b ≡ 176 = omega arith in
-    let m : (104 * a .i + 104) - 104 * a .i ≡ 104 = omega arith in
-    let room : length (take ((b + 176) - b) (drop b (a .answers .now))) ≡ 176 = simp (length-take, length-drop) (omega arith) in
-    let size : length (take ((104 * a .i + 104) - 104 * a .i) (drop (104 * a .i) (a .requests .now))) ≡ 104 = simp (length-take, length-drop) (omega arith) in
-    let done = step .ensures .1 ∙ stepped _ _ size room ∙ ap (λ (k : ℕ). answeredOf binary64 (take k (drop (104 * a .i) (a .requests .now)))) m in
-    let rest : b + ((b + 176) - b) ≡ b + 176 = omega arith in
-    let long : length (step .last .1 .0) ≡ 176 = step .kept .1 .0 ∙ room in
-    (before-part (a .answers .now) (step .last .1 .0) _ _ b (start .pre .1) long done, behind-part (a .answers .now) (step .last .1 .0) _ b (start .pre .1) long ∙ drop-drop ((b + 176) - b) b (a .answers .now) ∙ ap (λ (k : ℕ). drop k (a .answers .now)) rest)
+    let b = answerSize F * a .i in
+    let n : (b + answerSize F) - b ≡ answerSize F = omega arith in
+    let m : (requestSize F * a .i + requestSize F) - requestSize F * a .i ≡ requestSize F = omega arith in
+    let room : length (take ((b + answerSize F) - b) (drop b (a .answers .now))) ≡ answerSize F = simp (length-take, length-drop) (omega arith) in
+    let size : length (take ((requestSize F * a .i + requestSize F) - requestSize F * a .i) (drop (requestSize F * a .i) (a .requests .now))) ≡ requestSize F = simp (length-take, length-drop) (omega arith) in
+    let done = step .ensures .1 ∙ stepped _ _ size room ∙ ap (λ (k : ℕ). answeredOf F (take k (drop (requestSize F * a .i) (a .requests .now)))) m in
+    let rest : b + ((b + answerSize F) - b) ≡ b + answerSize F = omega arith in
+    let long : length (step .last .1 .0) ≡ answerSize F = step .kept .1 .0 ∙ room in
+    (before-part (a .answers .now) (step .last .1 .0) _ _ b (start .pre .1) long done, behind-part (a .answers .now) (step .last .1 .0) _ b (start .pre .1) long ∙ drop-drop ((b + answerSize F) - b) b (a .answers .now) ∙ ap (λ (k : ℕ). drop k (a .answers .now)) rest)
 
 pub answer-one-spec : {M : Type 1} → statement M
 answer-one-spec =

@@ -1,7 +1,8 @@
 -- Each return is one outcome of two comparisons of sums of magnitudes. Assumes nothing.
 use mathlib.Core.Path.{ap₂}
 use borrow.Author.Needs.{needs}
-use lib.Ieee.{binary64, add}
+use lib.Ieee.{add}
+use Rattle.float.specs.Width.{F}
 use Rattle.svd.proofs.Chosen.{Sums, rises-twice, rises-once, rises-late, never-rises}
 use Rattle.svd.proofs.pairs.find_largest_off_diag_nonsym.Statement.{statement}
 use Rattle.svd.proofs.pairs.find_largest_off_diag_nonsym.Tie as tie
@@ -45,16 +46,16 @@ magnitude-requires-6 c κs = search needs
 sums : (c : tie.After-magnitude6) →
     let two = c .before .before in
     let four = two .before .before in
-    let plus = add binary64 in
-    Sums binary64 (four .before .before .before .args .a .«data») (plus (four .before .magnitude .result) (four .magnitude2 .result))
+    let plus = add F in
+    Sums F (four .before .before .before .args .a .«data») (plus (four .before .magnitude .result) (four .magnitude2 .result))
     (plus (two .before .magnitude3 .result) (two .magnitude4 .result)) (plus (c .before .magnitude5 .result) (c .magnitude6 .result))
 sums c =
     let two = c .before .before in
     let four = two .before .before in
     record {
-      of12 = ap₂ (add binary64) (four .before .magnitude .ensures) (four .magnitude2 .ensures);
-      of13 = ap₂ (add binary64) (two .before .magnitude3 .ensures) (two .magnitude4 .ensures);
-      of23 = ap₂ (add binary64) (c .before .magnitude5 .ensures) (c .magnitude6 .ensures);
+      of12 = ap₂ (add F) (four .before .magnitude .ensures) (four .magnitude2 .ensures);
+      of13 = ap₂ (add F) (two .before .magnitude3 .ensures) (two .magnitude4 .ensures);
+      of23 = ap₂ (add F) (c .before .magnitude5 .ensures) (c .magnitude6 .ensures);
     }
 
 returns : tie.Need-returns

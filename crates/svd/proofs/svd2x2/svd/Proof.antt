@@ -1,7 +1,7 @@
 -- Each return is one outcome of the test of the input. Assumes nothing.
 use mathlib.Core.Path.{ap, _∙_}
 use borrow.Author.Needs.{needs}
-use lib.Ieee.{binary64}
+use Rattle.float.specs.Width.{F}
 use Rattle.svd.specs.Polar.{sides}
 use Rattle.svd.specs.Order.{factors2, ofFactors2}
 use Rattle.svd.specs.Svd2x2.{factors2Of, svd2, judgedSvd2, svd2Of}
@@ -50,7 +50,7 @@ unfolding svd2Of
 returns-2 c =
     rw (passes (c .before .before .before .before .all-finite .ensures) (c .before .before .before .if1 .left))
     (c .judge .ensures
-    ∙ ap (λ (w : Factors2). svd2 (judgedSvd2 binary64 (ofFactors2 w)))
+    ∙ ap (λ (w : Factors2). svd2 (judgedSvd2 F (ofFactors2 w)))
     (c .before .factors .ensures ∙ ap (λ (r : TwoSided). factors2 (factors2Of (sides r))) (c .before .before .compute-two-sided-rotation .ensures)))
 
 pub svd-spec : {M : Type 1} → statement M

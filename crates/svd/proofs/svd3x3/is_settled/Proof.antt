@@ -1,6 +1,6 @@
 -- The sum of the largest pair and the limit are those of the definition. Assumes nothing.
 use borrow.Author.Needs.{needs}
-use lib.Ieee.{binary64}
+use Rattle.float.specs.Width.{F}
 use Rattle.svd.proofs.Turns.{tested}
 use Rattle.svd.proofs.svd3x3.is_settled.Statement.{statement}
 use Rattle.svd.proofs.svd3x3.is_settled.Tie as tie
@@ -12,7 +12,7 @@ limit-requires : tie.Need-limit-requires
 limit-requires c κs = search needs
 
 returns : tie.Need-returns
-returns c = tested binary64 _ (c .before .before .find-largest-off-diag-nonsym .ensures) (c .before .limit .ensures)
+returns c = tested F _ (c .before .before .find-largest-off-diag-nonsym .ensures) (c .before .limit .ensures)
 
 pub is-settled-spec : {M : Type 1} → statement M
 is-settled-spec = tie.close (tie.spec find-largest-off-diag-nonsym-requires limit-requires returns)

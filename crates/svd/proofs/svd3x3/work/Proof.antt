@@ -4,7 +4,7 @@ use mathlib.Core.Bool.{Bool}
 use Prim.Native.Nat.{ℕ, _+_, _-_, _≤_}
 use native.Mathlib.Omega.{arith}
 use borrow.Author.Needs.{needs}
-use lib.Ieee.{binary64}
+use Rattle.float.specs.Width.{F}
 use Rattle.matrix.specs.declared.square.Mat3.{Mat3}
 use Rattle.eigen.proofs.Run.{leaves, turns-once, used-up}
 use Rattle.svd.specs.Svd3x3.{State, working, settledOf, stepOf, workOf, startOf}
@@ -16,10 +16,10 @@ abbrev state : Mat3 → Mat3 → Mat3 → ℕ → State
 state b u v n = record { matrix = b .«data»; u = u .«data»; v = v .«data»; count = n }
 
 abbrev done : State → Bool
-done s = settledOf binary64 (s .matrix)
+done s = settledOf F (s .matrix)
 
 abbrev Inv-loop : tie.InvT-loop
-Inv-loop b₀ u₀ v₀ count₀ b u v count = (count ≤ 25) × (workOf binary64 (25 - count) (state b u v count) ≡ workOf binary64 25 (startOf binary64 (b₀ .«data»)))
+Inv-loop b₀ u₀ v₀ count₀ b u v count = (count ≤ 25) × (workOf F (25 - count) (state b u v count) ≡ workOf F 25 (startOf F (b₀ .«data»)))
 
 abbrev μ-loop : tie.MeasureT-loop
 μ-loop b₀ u₀ v₀ count₀ b u v count = 25 - count
@@ -49,8 +49,8 @@ returns : tie.Need-returns Inv-loop μ-loop
 unfolding workOf
 returns c =
     let l = c .before .before .before .before .before .loop in
-    let h = sym (tested binary64 (l .b .«data») (c .before .before .before .find-largest-off-diag-nonsym .ensures) (c .before .before .limit .ensures)) ∙ c .if1 .taken in
-    ap working (leaves (stepOf binary64) done 25 (l .count) (state (l .b) (l .u) (l .v) (l .count)) h (l .inv .1))
+    let h = sym (tested F (l .b .«data») (c .before .before .before .find-largest-off-diag-nonsym .ensures) (c .before .before .limit .ensures)) ∙ c .if1 .taken in
+    ap working (leaves (stepOf F) done 25 (l .count) (state (l .b) (l .u) (l .v) (l .count)) h (l .inv .1))
 
 rotation-of-requires : tie.Need-rotation-of-requires Inv-loop μ-loop
 rotation-of-requires c κs = search needs
@@ -76,20 +76,20 @@ loop-again c =
     let e = c .before .before .before .before in
     let l = e .before .before .before .before .before .loop in
     let o = e .before .before .before .find-largest-off-diag-nonsym .ensures in
-    let h = sym (tested binary64 (l .b .«data») o (e .before .before .limit .ensures)) ∙ e .if1 .left in
+    let h = sym (tested F (l .b .«data») o (e .before .before .limit .ensures)) ∙ e .if1 .left in
     let s =
-    next-state binary64 (l .b .«data») o (l .count) (l .u .«data») (l .v .«data») (c .before .before .before .rotation-of .ensures)
+    next-state F (l .b .«data») o (l .count) (l .u .«data») (l .v .«data») (c .before .before .before .rotation-of .ensures)
     (c .before .before .apply-two-sided-rotation .ensures) (c .before .turn-columns .ensures) (c .turn-columns2 .ensures) in (
       omega arith,
-      ap (workOf binary64 (25 - (l .count + 1))) s
-          ∙ turns-once (stepOf binary64) done 25 (l .count) (state (l .b) (l .u) (l .v) (l .count)) (omega arith) h (l .inv .1),
+      ap (workOf F (25 - (l .count + 1))) s
+          ∙ turns-once (stepOf F) done 25 (l .count) (state (l .b) (l .u) (l .v) (l .count)) (omega arith) h (l .inv .1),
     )
 
 returns-2 : tie.Need-returns-2 Inv-loop μ-loop
 unfolding workOf
 returns-2 c =
     let l = c .before .loop in
-    ap working (used-up (stepOf binary64) done 25 (l .count) (state (l .b) (l .u) (l .v) (l .count)) (omega arith) (l .inv .1))
+    ap working (used-up (stepOf F) done 25 (l .count) (state (l .b) (l .u) (l .v) (l .count)) (omega arith) (l .inv .1))
 
 pub work-spec : {M : Type 1} → statement M
 work-spec =
