@@ -1,4 +1,4 @@
--- Bytes moved to the front of their own list, one by one from the first: what is not moved yet stays. Assumes nothing.
+-- Bytes moved to the front of their own list, one by one from the first: what is not moved yet stays.
 use mathlib.Core.Path.{_≡_, sym, ap, _∙_}
 use mathlib.Core.List.{List, [], _∷_, _++_}
 use Prim.Native.Nat.{ℕ, _+_, _<_}

@@ -1,4 +1,4 @@
--- What a factor makes of a pivot step: with a root it goes on, and in any other case it stops with the early writes. Assumes nothing.
+-- What a factor makes of a pivot step: with a root it goes on, and in any other case it stops with the early writes.
 use mathlib.Core.Path.{_≡_, sym, ap, _∙_}
 use mathlib.Core.List.{List}
 use Prim.Native.Nat.{ℕ}

@@ -1,4 +1,4 @@
--- The factors pivot by pivot: what a pivot step answers decides between the early writes and the rest of the factor. Assumes nothing.
+-- The factors pivot by pivot: what a pivot step answers decides between the early writes and the rest of the factor.
 use mathlib.Core.Path.{_≡_}
 use mathlib.Core.List.{List, [], _∷_}
 use Prim.Native.Nat.{ℕ}

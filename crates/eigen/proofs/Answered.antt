@@ -1,4 +1,4 @@
--- An answer with code 0 is that of the last state: every other way through the definition leaves another code. Assumes nothing.
+-- An answer with code 0 is that of the last state: every other way through the definition leaves another code.
 use mathlib.Core.Path.{_≡_, refl, sym, ap, _∙_}
 use mathlib.Core.Bool.{Bool, true, false}
 use mathlib.Core.List.{List}

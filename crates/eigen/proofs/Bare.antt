@@ -1,4 +1,4 @@
--- Without vectors the same is worked out: a state's matrix and count never look at its vectors, nor does the order of its values. Assumes nothing.
+-- Without vectors the same is worked out: a state's matrix and count never look at its vectors, nor does the order of its values.
 use mathlib.Core.Path.{_≡_, refl, sym, ap, _∙_}
 use mathlib.Core.Bool.{Bool, true, false}
 use mathlib.Core.Logic.{_⊎_, inl, inr, ⊎-elim}

@@ -1,4 +1,4 @@
--- Which rotation is chosen: each outcome of the three tests leaves one way through the choice. Assumes nothing.
+-- Which rotation is chosen: each outcome of the three tests leaves one way through the choice.
 use mathlib.Core.Path.{_≡_}
 use mathlib.Core.Bool.{true, false}
 use lib.Ieee.{Float, Format}

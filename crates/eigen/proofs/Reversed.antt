@@ -1,5 +1,5 @@
 -- Reversed wiring only exchanges the axes. The runs from A and from -A make the same rotations, so they end in matrices that are negations of each other, place by place,
--- and in the same vectors; and the values of one are the other's, negated, hence in the opposite order. Assumes nothing.
+-- and in the same vectors; and the values of one are the other's, negated, hence in the opposite order.
 pub mod Choice
 pub mod Steps
 pub mod Order

@@ -1,4 +1,4 @@
--- The laws of `run`, for any step and any test: each follows the turns one by one. Assumes nothing.
+-- The laws of `run`, for any step and any test: each follows the turns one by one.
 use mathlib.Core.Path.{_≡_, refl, sym, ap, _∙_, subst⁻¹}
 use mathlib.Core.Bool.{Bool, true, false}
 use mathlib.Core.Logic.{_⊎_, inl, inr}

@@ -1,4 +1,4 @@
--- What is read of a struct is what it was made of. Assumes nothing.
+-- What is read of a struct is what it was made of.
 use mathlib.Core.Path.{_≡_, ap, _∙_}
 use mathlib.Core.List.{List}
 use Prim.Native.Nat.{ℕ}

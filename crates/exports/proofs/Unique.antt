@@ -1,4 +1,4 @@
--- Any two answers within the promise of a C entry are equal, and so is what they leave in a lent slice. Assumes nothing.
+-- Any two answers within the promise of a C entry are equal, and so is what they leave in a lent slice.
 use mathlib.Core.Path.{sym, _∙_}
 use Prim.Native.Nat.{ℕ}
 use lib.Ieee.{Float}

@@ -1,4 +1,4 @@
--- No kind uses more than nine numbers of the nine, nor more than three of the three. Assumes nothing.
+-- No kind uses more than nine numbers of the nine, nor more than three of the three.
 use Prim.Native.Nat.{ℕ, _≤_}
 use native.Mathlib.Omega.{arith}
 use lib.Dec.{eqb}

@@ -1,4 +1,4 @@
--- Any two answers within the promise of a public function are equal. Assumes nothing.
+-- Any two answers within the promise of a public function are equal.
 use mathlib.Core.Bool.{Bool}
 use mathlib.Core.List.{List}
 use Prim.Native.Nat.{ℕ}

@@ -1,4 +1,4 @@
--- The answer of every kind: its sizes, only a code and a pivot's number where the code is not 0, and no code 5 over finite numbers. Assumes nothing.
+-- The answer of every kind: its sizes, only a code and a pivot's number where the code is not 0, and no code 5 over finite numbers.
 use mathlib.Core.Path.{_≡_, refl}
 use mathlib.Core.Bool.{true}
 use mathlib.Core.List.{List, [], _∷_}

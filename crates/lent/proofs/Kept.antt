@@ -1,4 +1,4 @@
--- What a checked rotation keeps, whatever the rotation: each side of each test keeps it. Assumes nothing.
+-- What a checked rotation keeps, whatever the rotation: each side of each test keeps it.
 use mathlib.Core.Path.{_≡_, refl}
 use mathlib.Core.Bool.{true}
 use mathlib.Core.List.{List, [], _∷_}

@@ -1,4 +1,4 @@
--- A place is answered exactly where its row and its column are below the size; what is read or written there goes by the same two tests. Assumes nothing.
+-- A place is answered exactly where its row and its column are below the size; what is read or written there goes by the same two tests.
 use mathlib.Core.Path.{_≡_, refl, sym, ap, _∙_, subst⁻¹}
 use mathlib.Core.Bool.{Bool, true, false}
 use Prim.Native.Nat.{ℕ, _*_, _≤_, _<_}

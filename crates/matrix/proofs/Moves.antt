@@ -1,4 +1,4 @@
--- A square list is the table of its entries, since i = i % n + (i / n) * n; so a move that is done twice is undone entry by entry. Assumes nothing.
+-- A square list is the table of its entries, since i = i % n + (i / n) * n; so a move that is done twice is undone entry by entry.
 use mathlib.Core.Path.{_≡_, refl, sym, ap, _∙_}
 use mathlib.Core.Bool.{Bool, true, false}
 use mathlib.Core.List.{List}

@@ -1,4 +1,4 @@
--- A place that is answered lies in the list: the columns before column c leave n places for it, and the triangle grows by a column at a time. Assumes nothing.
+-- A place that is answered lies in the list: the columns before column c leave n places for it, and the triangle grows by a column at a time.
 use mathlib.Core.Path.{_≡_, refl, ap}
 use mathlib.Core.Logic.{⊎-elim}
 use mathlib.Core.Bool.{Bool, true, false}

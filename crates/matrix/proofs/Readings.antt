@@ -1,4 +1,4 @@
--- Each case of an enum has a code of its own, so code and value together give the case back. Assumes nothing.
+-- Each case of an enum has a code of its own, so code and value together give the case back.
 use mathlib.Core.Path.{_≡_, refl, sym, ap, _∙_}
 use Prim.Native.Nat.{ℕ}
 use lib.Dec.{eqb}

@@ -1,4 +1,4 @@
--- A list of n numbers is the table of what stands at its places: by induction on n. Assumes nothing.
+-- A list of n numbers is the table of what stands at its places: by induction on n.
 use mathlib.Core.Path.{_≡_, refl, ap, _∙_}
 use mathlib.Core.List.{List, [], _∷_, _++_}
 use Prim.Native.Nat.{ℕ, zero, suc, _≤_, _<_}

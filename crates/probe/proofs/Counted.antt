@@ -1,4 +1,4 @@
--- So many parts of one size. Assumes nothing.
+-- So many parts of one size.
 use mathlib.Core.Path.{_≡_}
 use Prim.Native.Nat.{ℕ, zero, suc, _+_, _*_, _-_, _/_, _<_, _≤_}
 use native.Mathlib.Nat.{suc-mul, mul-comm, le-trans, mul-le-mul-right, div-le-of-le-mul, div-mul-le-self}

@@ -1,4 +1,4 @@
--- A signed number by its sign: from 0 on it is its own magnitude, and below 0 -1 - z is. Assumes nothing.
+-- A signed number by its sign: from 0 on it is its own magnitude, and below 0 -1 - z is.
 use mathlib.Core.Path.{_≡_, ap, _∙_}
 use mathlib.Core.Bool.{true, false, true≢false}
 use Prim.Native.Nat.{suc}

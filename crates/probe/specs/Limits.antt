@@ -1,4 +1,4 @@
--- What an item and its answer may have. Assumes nothing.
+-- What an item and its answer may have.
 use Prim.Native.Nat.{ℕ, _<_, _≤_}
 
 -- n words in and m words out

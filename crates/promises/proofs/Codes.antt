@@ -1,4 +1,4 @@
--- Each number is given exactly under its row's condition: the record step asks the rows one after the other, in the table's order. Assumes nothing.
+-- Each number is given exactly under its row's condition: the record step asks the rows one after the other, in the table's order.
 use mathlib.Core.Path.{_≡_, refl, sym, ap, _∙_}
 use mathlib.Core.Bool.{Bool, true, false, not, _&&_}
 use mathlib.Core.List.{List, [], _∷_}

@@ -1,4 +1,4 @@
--- The definitions give every row's answer: by computation. Assumes nothing.
+-- The definitions give every row's answer: by computation.
 use mathlib.Core.Path.{_≡_, refl}
 use mathlib.Core.List.{map}
 use lib.Ieee.{add, sub, mul, div, lt, le, eq, ofBits, toBits}

@@ -1,4 +1,4 @@
--- A kind's code over finite numbers: 6 where a pivot is not above zero, else 7 where a number of the answer is not finite, else 0. Assumes nothing.
+-- A kind's code over finite numbers: 6 where a pivot is not above zero, else 7 where a number of the answer is not finite, else 0.
 use mathlib.Core.Path.{_≡_, refl, sym, ap, _∙_, subst}
 use mathlib.Core.Bool.{Bool, true, false, not, _&&_}
 use mathlib.Core.List.{List, _++_}

@@ -1,4 +1,4 @@
--- With code 6 an answer has the number of the first pivot that is at most zero: the steps stop there, and their number is handed on. Assumes nothing.
+-- With code 6 an answer has the number of the first pivot that is at most zero: the steps stop there, and their number is handed on.
 use mathlib.Core.Path.{_≡_, refl, sym, _∙_}
 use mathlib.Core.Bool.{Bool, true, false, _&&_}
 use mathlib.Core.List.{List}

@@ -1,4 +1,4 @@
--- The first row that holds has the number k exactly when row k holds and none before it does: by going down the rows. Assumes nothing.
+-- The first row that holds has the number k exactly when row k holds and none before it does: by going down the rows.
 use mathlib.Core.Path.{_≡_, refl, sym, ap, _∙_}
 use mathlib.Core.Bool.{Bool, true, false, not, _&&_, false≢true, true≢false}
 use mathlib.Core.List.{List, [], _∷_}

@@ -1,4 +1,4 @@
--- A number whose highest bit is turned is its negation: the other fields stay, and the sign is the other one. Assumes nothing.
+-- A number whose highest bit is turned is its negation: the other fields stay, and the sign is the other one.
 use mathlib.Core.Path.{_≡_, refl, sym, ap, _∙_}
 use mathlib.Core.Bool.{Bool, true, false, cond}
 use mathlib.Core.List.{List, [], _∷_, _++_}

@@ -1,4 +1,4 @@
--- A factor's steps stop at the first pivot that is at most zero, with 6 and its number, and are whole where there is none. Assumes nothing.
+-- A factor's steps stop at the first pivot that is at most zero, with 6 and its number, and are whole where there is none.
 use mathlib.Core.Path.{_≡_, refl}
 use mathlib.Core.Bool.{Bool, true, false, _||_}
 use mathlib.Core.List.{List, [], _∷_}

@@ -1,5 +1,5 @@
 -- Every number of a record is finite: the tests of 7 say so of the worked matrix and the vectors, the values are numbers of that matrix or their magnitudes, and what is refused and the
--- places that are left over hold +0. Assumes nothing.
+-- places that are left over hold +0.
 use mathlib.Core.Path.{_≡_, refl, sym, ap, _∙_}
 use mathlib.Core.Bool.{true, false≢true}
 use mathlib.Core.List.{List, [], _∷_}

@@ -1,4 +1,4 @@
--- Reversed wiring at the record: the turned request says the same of its form, its six numbers are the negated ones, and of the kernel's answers the theorem `reversed` tells. Assumes nothing.
+-- Reversed wiring at the record: the turned request says the same of its form, its six numbers are the negated ones, and of the kernel's answers the theorem `reversed` tells.
 use mathlib.Core.Path.{_≡_, refl, sym, ap, _∙_, subst}
 use mathlib.Core.Bool.{Bool, true, false, _&&_}
 use mathlib.Core.List.{List, [], _∷_, _++_}

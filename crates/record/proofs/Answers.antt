@@ -1,4 +1,4 @@
--- Every answer: its size, its code in byte 5, zeros from the mark on where the code is not 0, and 5 only by the record's own test. Assumes nothing.
+-- Every answer: its size, its code in byte 5, zeros from the mark on where the code is not 0, and 5 only by the record's own test.
 use mathlib.Core.Path.{_≡_, refl, sym, ap, _∙_}
 use mathlib.Core.Logic.{_⊎_, inl, inr, ⊎-elim}
 use mathlib.Core.Bool.{true}

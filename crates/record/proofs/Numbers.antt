@@ -1,4 +1,4 @@
--- Numbers in bytes, over the format. Assumes nothing.
+-- Numbers in bytes, over the format.
 use mathlib.Core.Path.{_≡_, refl, sym, ap}
 use mathlib.Core.Bool.{not}
 use mathlib.Core.List.{List, [], _∷_, _++_, append-assoc, append-nil}

@@ -1,4 +1,4 @@
--- Parts of a list: what one more element, one more store or one more number does to them. Assumes nothing.
+-- Parts of a list: what one more element, one more store or one more number does to them.
 use mathlib.Core.Path.{_≡_, refl, sym, ap, _∙_}
 use mathlib.Core.List.{List, [], _∷_, _++_}
 use Prim.Native.Nat.{ℕ, _+_, _≤_, _<_}

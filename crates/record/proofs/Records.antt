@@ -1,4 +1,4 @@
--- The bytes of a record: its head and its three groups of numbers, written one after the other, are the whole. Assumes nothing.
+-- The bytes of a record: its head and its three groups of numbers, written one after the other, are the whole.
 use mathlib.Core.Path.{_≡_, sym, ap, _∙_}
 use mathlib.Core.List.{List, [], _∷_, _++_, append-assoc}
 use Prim.Native.Nat.{ℕ, _≤_}

@@ -1,4 +1,4 @@
--- Answers one after the other: one more behind those that are there, with what lies behind it as it was. Assumes nothing.
+-- Answers one after the other: one more behind those that are there, with what lies behind it as it was.
 use mathlib.Core.Path.{_≡_, ap}
 use mathlib.Core.List.{List, _++_, append-assoc}
 use Prim.Native.Nat.{ℕ, _+_, _*_, _≤_}

@@ -1,4 +1,4 @@
--- The finite test of the first of all numbers is the test of those that a kind uses. Assumes nothing.
+-- The finite test of the first of all numbers is the test of those that a kind uses.
 use mathlib.Core.Path.{_≡_, ap, _∙_}
 use mathlib.Core.Bool.{true, _&&_}
 use mathlib.Core.List.{List}

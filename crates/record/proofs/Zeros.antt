@@ -1,4 +1,4 @@
--- The zero test of bytes, from a place on, and bytes taken together bit by bit: none has a bit exactly where all are zero. Assumes nothing.
+-- The zero test of bytes, from a place on, and bytes taken together bit by bit: none has a bit exactly where all are zero.
 use mathlib.Core.Path.{_≡_, refl, sym, ap, _∙_}
 use mathlib.Core.Bool.{Bool, true, false, _&&_, and-assoc}
 use mathlib.Core.List.{List}

@@ -1,4 +1,4 @@
--- An answer with code 0 is that of the last state, and has passed every test: each way out at a test leaves another code. Assumes nothing.
+-- An answer with code 0 is that of the last state, and has passed every test: each way out at a test leaves another code.
 use mathlib.Core.Path.{_≡_, refl}
 use mathlib.Core.Bool.{Bool, true, false}
 use mathlib.Core.List.{List}

@@ -1,4 +1,4 @@
--- Which pair is the largest, and whether a column is flipped: each outcome of the tests leaves one way through the choice. Assumes nothing.
+-- Which pair is the largest, and whether a column is flipped: each outcome of the tests leaves one way through the choice.
 use mathlib.Core.Path.{_≡_}
 use mathlib.Core.Bool.{Bool, true, false}
 use mathlib.Core.List.{List}

@@ -1,4 +1,4 @@
--- U, V and the values are moved by one permutation, which the comparisons choose; the values are magnitudes, so finite ones descend to zero or above. Assumes nothing.
+-- U, V and the values are moved by one permutation, which the comparisons choose; the values are magnitudes, so finite ones descend to zero or above.
 pub mod Moves
 pub mod Keys
 pub mod Falling

@@ -1,4 +1,4 @@
--- Any two answers within the promise of a public function are equal. Each promise is read from the source, as a caller reads it. Assumes nothing.
+-- Any two answers within the promise of a public function are equal. Each promise is read from the source, as a caller reads it.
 use lib.Ieee.{Float}
 use Rattle.float.specs.OneAnswer.{OneAnswer}
 use Rattle.float.proofs.OneAnswer.{named}

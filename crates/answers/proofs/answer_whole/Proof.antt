@@ -1,4 +1,4 @@
--- A large buffer has room for a batch of answers, and there are no more requests than that. Assumes nothing.
+-- A large buffer has room for a batch of answers, and there are no more requests than that.
 use borrow.Author.Needs.{needs}
 use mathlib.Core.Path.{_≡_, _∙_}
 use mathlib.Core.List.{List}
@@ -19,12 +19,6 @@ counted total buf out h k l = simp length-take (omega arith)
 slice-aggregate-answer-all : tie.Need-slice-aggregate-answer-all
 slice-aggregate-answer-all c = simp length-take (omega arith)
 
-answer-all-requires : tie.Need-answer-all-requires
-answer-all-requires c κs = search needs
-
-same-length : tie.Need-same-length
-same-length c = search needs
-
 returns : tie.Need-returns
 returns c =
     let a = c .before .before .before .before .before .before .before .args in
@@ -32,4 +26,4 @@ returns c =
 
 pub answer-whole-spec : {M : Type 1} → statement M
 answer-whole-spec =
-    tie.close (tie.spec slice-aggregate-answer-all answer-all-requires same-length returns)
+    tie.close (tie.spec slice-aggregate-answer-all (λ c κs. search needs) (λ c. search needs) returns)

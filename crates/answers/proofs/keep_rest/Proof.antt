@@ -1,4 +1,4 @@
--- Byte i is read at or behind where it goes, so it is still the one of the beginning. Assumes nothing.
+-- Byte i is read at or behind where it goes, so it is still the one of the beginning.
 use mathlib.Core.Path.{_≡_, refl, subst}
 use Prim.Native.Nat.{_-_, _≤_}
 use native.Mathlib.Omega.{arith}

@@ -1,6 +1,6 @@
 -- The rotation chosen for a pair is the same, to the bit, for the pair negated: every test reads magnitudes or compares with zero, and theta is a quotient of
 -- two numbers that both change sign. The one thing that could tell the two apart is the sign of a zero. It never reaches theta: where the diagonal's difference is zero
--- the 45 degree rotation is taken, since epsilon times the larger diagonal number, itself no less than epsilon, does not vanish. Assumes nothing.
+-- the 45 degree rotation is taken, since epsilon times the larger diagonal number, itself no less than epsilon, does not vanish.
 use mathlib.Core.Path.{_≡_, refl, sym, ap, _∙_, subst}
 use mathlib.Core.Bool.{Bool, true, false, not, _||_, Bool·beq, cond, false≢true}
 use Prim.Native.Nat.{ℕ, zero, suc, _*_, _≤_, _<_}

@@ -1,5 +1,5 @@
 -- Three finite values and their negations are put in opposite orders. As keys, which are natural numbers, the sorted values are minima and maxima, and those of the
--- negations are their mirror images. Where no two values are equal a sorted value tells which it was, so its column follows. Assumes nothing.
+-- negations are their mirror images. Where no two values are equal a sorted value tells which it was, so its column follows.
 use mathlib.Core.Path.{_≡_, refl, sym, ap, _∙_}
 use mathlib.Core.HLevel.{⊥-prop}
 use mathlib.Core.Logic.{_⊎_, inl, inr, Or·elim}

@@ -1,5 +1,5 @@
 -- Two matrices that are the same or negated, place by place, stay so through every rotation: the tests and the rotation are the same for both, and what a rotation
--- makes of a matrix is sums and products that keep signs apart. So both runs make as many rotations and turn the vectors alike. Assumes nothing.
+-- makes of a matrix is sums and products that keep signs apart. So both runs make as many rotations and turn the vectors alike.
 use mathlib.Core.Path.{_≡_, ap, subst₂, _∙_}
 use mathlib.Core.Bool.{Bool, true, false}
 use mathlib.Core.List.{List, [], _∷_}

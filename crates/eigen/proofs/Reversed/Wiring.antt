@@ -1,5 +1,5 @@
 -- What `eigen_jacobi` answers to a matrix and to its negation differs only in the order of the axes: its promise names the answer, of which `reversed` says so.
--- The promise is read from the source, as a caller reads it. Assumes nothing.
+-- The promise is read from the source, as a caller reads it.
 use mathlib.Core.Path.{_≡_, sym, ap, _∙_, subst₂}
 use lib.ListN.{length}
 use Rattle.float.specs.Width.{F}

@@ -1,5 +1,5 @@
 -- The local copy is lent for a lifetime of the call, and comes back at the last value that the promise of `rotate_in_place` names.
--- A walk of the MIR, in which `rotatedOf` stays shut. Assumes nothing.
+-- A walk of the MIR, in which `rotatedOf` stays shut.
 use mathlib.Core.Path.{_≡_, refl, ap}
 use Prim.Native.Nat.{ℕ, _<_, _^_}
 use mathlib.Core.List.{[], _∷_, List}

@@ -1,5 +1,5 @@
 -- The borrow is opened, the matrix is copied out, `rotated` answers for the copy, and its matrix lies behind the reference when the borrow is closed.
--- A walk of the MIR, in which `rotatedOf` stays shut. Assumes nothing.
+-- A walk of the MIR, in which `rotatedOf` stays shut.
 use mathlib.Core.Path.{_≡_, refl, ap}
 use Prim.Native.Nat.{ℕ, _<_, _^_}
 use mathlib.Core.List.{[], _∷_, List}

@@ -1,4 +1,4 @@
--- Each return is one outcome of the three tests, in the order of the definition; the rotation itself is the one of `apply_rotation`. Assumes nothing.
+-- Each return is one outcome of the three tests, in the order of the definition; the rotation itself is the one of `apply_rotation`.
 use mathlib.Core.Path.{ap, _∙_}
 use borrow.Author.Needs.{needs}
 use Rattle.float.specs.Sign.{allFinite}
@@ -8,36 +8,15 @@ use Rattle.lent.specs.InPlace.{rotatedOf}
 use Rattle.lent.proofs.rotated.Statement.{statement}
 use Rattle.lent.proofs.rotated.Tie as tie
 
-slice-aggregate-all-finite : tie.Need-slice-aggregate-all-finite
-slice-aggregate-all-finite c = search needs
-
-all-finite-requires : tie.Need-all-finite-requires
-all-finite-requires c κs = search needs
-
 returns : tie.Need-returns
 unfolding rotatedOf
 returns c = simp (fails (c .before .all-finite .ensures) (c .if1 .taken))
-
-slice-aggregate-all-finite-2 : tie.Need-slice-aggregate-all-finite-2
-slice-aggregate-all-finite-2 c = search needs
-
-all-finite-requires-2 : tie.Need-all-finite-requires-2
-all-finite-requires-2 c κs = search needs
 
 returns-2 : tie.Need-returns-2
 unfolding rotatedOf
 returns-2 c =
     let past1 = c .before .before .before in
     simp (passes (past1 .before .all-finite .ensures) (past1 .if1 .left), fails (c .before .all-finite2 .ensures) (c .if2 .taken))
-
-apply-rotation-requires : tie.Need-apply-rotation-requires
-apply-rotation-requires c κs = search needs
-
-slice-aggregate-all-finite-3 : tie.Need-slice-aggregate-all-finite-3
-slice-aggregate-all-finite-3 c = search needs
-
-all-finite-requires-3 : tie.Need-all-finite-requires-3
-all-finite-requires-3 c κs = search needs
 
 returns-3 : tie.Need-returns-3
 unfolding rotatedOf
@@ -61,14 +40,14 @@ pub rotated-spec : {M : Type 1} → statement M
 rotated-spec =
     tie.close
     (tie.spec
-    slice-aggregate-all-finite
-    all-finite-requires
+    (λ c. search needs)
+    (λ c κs. search needs)
     returns
-    slice-aggregate-all-finite-2
-    all-finite-requires-2
+    (λ c. search needs)
+    (λ c κs. search needs)
     returns-2
-    apply-rotation-requires
-    slice-aggregate-all-finite-3
-    all-finite-requires-3
+    (λ c κs. search needs)
+    (λ c. search needs)
+    (λ c κs. search needs)
     returns-3
     returns-4)

@@ -1,4 +1,4 @@
--- Finite values without signs, sorted by exchanges, descend to zero or above: their keys do, as no exchange disturbs what an earlier one left. Assumes nothing.
+-- Finite values without signs, sorted by exchanges, descend to zero or above: their keys do, as no exchange disturbs what an earlier one left.
 use mathlib.Core.Path.{_≡_, refl}
 use mathlib.Core.Bool.{true, false}
 use mathlib.Core.List.{List}

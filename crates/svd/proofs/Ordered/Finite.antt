@@ -1,4 +1,4 @@
--- What an answer with code 0 puts in order is finite: a matrix keeps its nine places, and a magnitude is finite where its number is. Assumes nothing.
+-- What an answer with code 0 puts in order is finite: a matrix keeps its nine places, and a magnitude is finite where its number is.
 use mathlib.Core.Path.{_≡_, refl}
 use mathlib.Core.Bool.{true, false}
 use mathlib.Core.List.{List}

@@ -1,4 +1,4 @@
--- Finite floats as natural numbers, their keys: an exchange leaves the larger of two keys at the first place and the smaller at the second. Assumes nothing.
+-- Finite floats as natural numbers, their keys: an exchange leaves the larger of two keys at the first place and the smaller at the second.
 use mathlib.Core.Path.{_≡_, refl, sym, ap, _∙_}
 use mathlib.Core.Bool.{Bool, true, false, _||_, true≢false}
 use Prim.Native.Nat.{ℕ, _≤_, _<_, min, max}

@@ -1,4 +1,4 @@
--- Values and columns are only moved. An exchange of two moves the values, U and V alike and is undone by itself, and what two moves do is again one. Assumes nothing.
+-- Values and columns are only moved. An exchange of two moves the values, U and V alike and is undone by itself, and what two moves do is again one.
 use mathlib.Core.Path.{_≡_, refl, ap, _∙_, subst, subst⁻¹}
 use mathlib.Core.Bool.{Bool, true, false}
 use Prim.Native.Nat.{ℕ, _<_}

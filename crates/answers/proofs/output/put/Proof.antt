@@ -1,4 +1,4 @@
--- What went out never passes what there is, since one write moves no more than it was handed; and each turn takes a try. Assumes nothing.
+-- What went out never passes what there is, since one write moves no more than it was handed; and each turn takes a try.
 use borrow.Author.Needs.{needs}
 use mathlib.Core.Path.{subst}
 use mathlib.Core.List.{List}
@@ -19,33 +19,6 @@ Inv-loop out done₀ tries₀ done tries = (done ≤ length out)
 abbrev μ-loop : tie.MeasureT-loop
 μ-loop out done₀ tries₀ done tries = tries
 
-loop-holds : tie.Need-loop-holds Inv-loop μ-loop
-loop-holds c = search needs
-
-returns : tie.Need-returns Inv-loop μ-loop
-returns c = search needs
-
-sub-once : tie.Need-sub-once Inv-loop μ-loop
-sub-once c = search needs
-
-part-once-start : tie.Need-part-once-start Inv-loop μ-loop
-part-once-start c = search needs
-
-part-once-end : tie.Need-part-once-end Inv-loop μ-loop
-part-once-end c = search needs
-
-once-requires : tie.Need-once-requires Inv-loop μ-loop
-once-requires c κs = search needs
-
-enum-known-n : tie.Need-enum-known-n Inv-loop μ-loop
-enum-known-n c = search needs
-
-enum-told : tie.Need-enum-told Inv-loop μ-loop
-enum-told c = search needs
-
-returns-2 : tie.Need-returns-2 Inv-loop μ-loop
-returns-2 c = search needs
-
 add-done : tie.Need-add-done Inv-loop μ-loop
 add-done c =
     let k = c .before .before .before .before .before .before .before in
@@ -53,20 +26,11 @@ add-done c =
     let h = moved-within _ (k .loop .done) (k .before .before .args .out .now) w (k .loop .inv) in
     omega arith
 
-sub-tries : tie.Need-sub-tries Inv-loop μ-loop
-sub-tries c = search needs
-
-loop-less : tie.Need-loop-less Inv-loop μ-loop
-loop-less c = search needs
-
 loop-again : tie.Need-loop-again Inv-loop μ-loop
 loop-again c =
     let k = c .before .before .before .before .before .before .before in
     let w = subst (Within _) (c .before .n .given .1) (c .before .before .before .once .ensures) in
     moved-within _ (k .loop .done) (k .before .before .args .out .now) w (k .loop .inv)
-
-returns-3 : tie.Need-returns-3 Inv-loop μ-loop
-returns-3 c = search needs
 
 pub put-spec : {M : Type 1} → statement M
 put-spec =
@@ -74,17 +38,17 @@ put-spec =
     (tie.spec
     Inv-loop
     μ-loop
-    loop-holds
-    returns
-    sub-once
-    part-once-start
-    part-once-end
-    once-requires
-    enum-known-n
-    enum-told
-    returns-2
+    (λ c. search needs)
+    (λ c. search needs)
+    (λ c. search needs)
+    (λ c. search needs)
+    (λ c. search needs)
+    (λ c κs. search needs)
+    (λ c. search needs)
+    (λ c. search needs)
+    (λ c. search needs)
     add-done
-    sub-tries
-    loop-less
+    (λ c. search needs)
+    (λ c. search needs)
     loop-again
-    returns-3)
+    (λ c. search needs))

@@ -1,4 +1,4 @@
--- Only a whole factor is judged. Assumes nothing.
+-- Only a whole factor is judged.
 use borrow.Author.Needs.{needs}
 use borrow.Author.Tests.{eq-eqb, ne-eqb}
 use Rattle.cholesky.proofs.cholesky2x2.judge_factor.Statement.{statement}
@@ -6,12 +6,6 @@ use Rattle.cholesky.proofs.cholesky2x2.judge_factor.Tie as tie
 
 returns : tie.Need-returns
 returns c = rw (ne-eqb _ 0 (c .if1 .taken))
-
-slice-aggregate-all-finite : tie.Need-slice-aggregate-all-finite
-slice-aggregate-all-finite c = search needs
-
-all-finite-requires : tie.Need-all-finite-requires
-all-finite-requires c κs = search needs
 
 returns-2 : tie.Need-returns-2
 returns-2 c = rw (eq-eqb _ 0 (c .before .before .before .if1 .left), ← c .before .all-finite .ensures, c .if2 .taken)
@@ -21,4 +15,4 @@ returns-3 c = rw (eq-eqb _ 0 (c .before .before .before .if1 .left), ← c .befo
 
 pub judge-factor-spec : {M : Type 1} → statement M
 judge-factor-spec =
-    tie.close (tie.spec returns slice-aggregate-all-finite all-finite-requires returns-2 returns-3)
+    tie.close (tie.spec returns (λ c. search needs) (λ c κs. search needs) returns-2 returns-3)

@@ -1,4 +1,4 @@
--- Each pivot step either hands its root on or stops the factor, as the definition has it. Assumes nothing.
+-- Each pivot step either hands its root on or stops the factor, as the definition has it.
 use mathlib.Core.Path.{_≡_, ap, _∙_}
 use mathlib.Core.List.{List}
 use borrow.Author.Needs.{needs}
@@ -30,55 +30,19 @@ l21 c = div F (at (a-of (start c)) 1) (l11 c)
 first : (c : tie.After-known-told) → second2Of F (l-of (start c)) (a-of (start c)) (l11 c) (l21 c) ≡ steps2Of F (l-of (start c)) (a-of (start c))
 first c = goes-first2 F (l-of (start c)) (a-of (start c)) (c .before .before .before .pivot-step .ensures) (c .before .p1 .given .1)
 
-array-read-pivot-step : tie.Need-array-read-pivot-step
-array-read-pivot-step c = search needs
-
-pivot-step-requires : tie.Need-pivot-step-requires
-pivot-step-requires c κs = search needs
-
-enum-known-p1 : tie.Need-enum-known-p1
-enum-known-p1 c = search needs
-
 enum-told : tie.Need-enum-told
 enum-told c = search needs
-
-stopped-requires : tie.Need-stopped-requires
-stopped-requires c κs = search needs
 
 returns : tie.Need-returns
 returns c =
     let s = c .before .before .before .before .before .before in
     c .stopped .ensures ∙ ap factor2 (stops-first2 F (l-of s) (a-of s) (c .before .before .before .pivot-step .ensures) (c .before .enum-told .given .1))
 
-array-read-l21 : tie.Need-array-read-l21
-array-read-l21 c = search needs
-
-array-read-pivot-step-2 : tie.Need-array-read-pivot-step-2
-array-read-pivot-step-2 c = search needs
-
-pivot-step-requires-2 : tie.Need-pivot-step-requires-2
-pivot-step-requires-2 c κs = search needs
-
-enum-known-p2 : tie.Need-enum-known-p2
-enum-known-p2 c = search needs
-
-enum-told-2 : tie.Need-enum-told-2
-enum-told-2 c = search needs
-
-array-read-t21 : tie.Need-array-read-t21
-array-read-t21 c = search needs
-
-stopped-requires-2 : tie.Need-stopped-requires-2
-stopped-requires-2 c κs = search needs
-
 returns-2 : tie.Need-returns-2
 returns-2 c =
     let k = c .before .before .before .before in
     let s = start k in
     c .stopped2 .ensures ∙ ap factor2 (stops-second2 F (l-of s) (a-of s) (l11 k) (l21 k) (c .before .before .before .pivot-step2 .ensures) (c .before .enum-told2 .given .1) ∙ first k)
-
-whole-requires : tie.Need-whole-requires
-whole-requires c κs = search needs
 
 returns-3 : tie.Need-returns-3
 returns-3 c =
@@ -90,19 +54,19 @@ pub steps-spec : {M : Type 1} → statement M
 steps-spec =
     tie.close
     (tie.spec
-    array-read-pivot-step
-    pivot-step-requires
-    enum-known-p1
+    (λ c. search needs)
+    (λ c κs. search needs)
+    (λ c. search needs)
     enum-told
-    stopped-requires
+    (λ c κs. search needs)
     returns
-    array-read-l21
-    array-read-pivot-step-2
-    pivot-step-requires-2
-    enum-known-p2
-    enum-told-2
-    array-read-t21
-    stopped-requires-2
+    (λ c. search needs)
+    (λ c. search needs)
+    (λ c κs. search needs)
+    (λ c. search needs)
+    (λ c. search needs)
+    (λ c. search needs)
+    (λ c κs. search needs)
     returns-2
-    whole-requires
+    (λ c κs. search needs)
     returns-3)

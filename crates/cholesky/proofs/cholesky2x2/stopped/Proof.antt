@@ -1,13 +1,10 @@
--- The code and the number are those of the pivot step. Assumes nothing.
+-- The code and the number are those of the pivot step.
 use borrow.Author.Needs.{needs}
 use Rattle.cholesky.proofs.cholesky2x2.stopped.Statement.{statement}
 use Rattle.cholesky.proofs.cholesky2x2.stopped.Tie as tie
-
-refusal-of-requires : tie.Need-refusal-of-requires
-refusal-of-requires c κs = search needs
 
 returns : tie.Need-returns
 returns c = rw (c .refusal-of .ensures)
 
 pub stopped-spec : {M : Type 1} → statement M
-stopped-spec = tie.close (tie.spec refusal-of-requires returns)
+stopped-spec = tie.close (tie.spec (λ c κs. search needs) returns)

@@ -1,25 +1,13 @@
--- Not finite input stops it; else the steps are judged. Assumes nothing.
+-- Not finite input stops it; else the steps are judged.
 use borrow.Author.Needs.{needs}
 use Rattle.float.proofs.Branches.{passes, fails}
 use Rattle.cholesky.specs.Factor.{factor3Of}
 use Rattle.cholesky.proofs.cholesky3x3.cholesky_3x3_explicit_factor.Statement.{statement}
 use Rattle.cholesky.proofs.cholesky3x3.cholesky_3x3_explicit_factor.Tie as tie
 
-slice-aggregate-all-finite : tie.Need-slice-aggregate-all-finite
-slice-aggregate-all-finite c = search needs
-
-all-finite-requires : tie.Need-all-finite-requires
-all-finite-requires c κs = search needs
-
 returns : tie.Need-returns
 unfolding factor3Of
 returns c = rw (fails (c .before .all-finite .ensures) (c .if1 .taken))
-
-steps-requires : tie.Need-steps-requires
-steps-requires c κs = search needs
-
-judge-factor-requires : tie.Need-judge-factor-requires
-judge-factor-requires c κs = search needs
 
 returns-2 : tie.Need-returns-2
 unfolding factor3Of
@@ -29,9 +17,9 @@ pub cholesky-3x3-explicit-factor-spec : {M : Type 1} → statement M
 cholesky-3x3-explicit-factor-spec =
     tie.close
     (tie.spec
-    slice-aggregate-all-finite
-    all-finite-requires
+    (λ c. search needs)
+    (λ c κs. search needs)
     returns
-    steps-requires
-    judge-factor-requires
+    (λ c κs. search needs)
+    (λ c κs. search needs)
     returns-2)

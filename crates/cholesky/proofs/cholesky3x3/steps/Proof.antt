@@ -1,4 +1,4 @@
--- Each pivot step either hands its root on or stops the factor, as the definition has it. Assumes nothing.
+-- Each pivot step either hands its root on or stops the factor, as the definition has it.
 use mathlib.Core.Path.{_≡_, ap, _∙_}
 use mathlib.Core.List.{List}
 use borrow.Author.Needs.{needs}
@@ -50,55 +50,13 @@ second c =
     goes-second3 F (l-of (start (one c))) (a-of (start (one c))) (l11 (one c)) (l21 (one c)) (c .before .before .before .pivot-step2 .ensures) (c .before .p2 .given .1)
     ∙ first (one c)
 
-array-read-pivot-step : tie.Need-array-read-pivot-step
-array-read-pivot-step c = search needs
-
-pivot-step-requires : tie.Need-pivot-step-requires
-pivot-step-requires c κs = search needs
-
-enum-known-p1 : tie.Need-enum-known-p1
-enum-known-p1 c = search needs
-
 enum-told : tie.Need-enum-told
 enum-told c = search needs
-
-stopped-requires : tie.Need-stopped-requires
-stopped-requires c κs = search needs
 
 returns : tie.Need-returns
 returns c =
     let s = c .before .before .before .before .before .before in
     c .stopped .ensures ∙ ap factor3 (stops-first3 F (l-of s) (a-of s) (c .before .before .before .pivot-step .ensures) (c .before .enum-told .given .1))
-
-array-read-l21 : tie.Need-array-read-l21
-array-read-l21 c = search needs
-
-array-read-pivot-step-2 : tie.Need-array-read-pivot-step-2
-array-read-pivot-step-2 c = search needs
-
-pivot-step-requires-2 : tie.Need-pivot-step-requires-2
-pivot-step-requires-2 c κs = search needs
-
-enum-known-p2 : tie.Need-enum-known-p2
-enum-known-p2 c = search needs
-
-enum-told-2 : tie.Need-enum-told-2
-enum-told-2 c = search needs
-
-array-read-t25 : tie.Need-array-read-t25
-array-read-t25 c = search needs
-
-array-read-t28 : tie.Need-array-read-t28
-array-read-t28 c = search needs
-
-array-read-t31 : tie.Need-array-read-t31
-array-read-t31 c = search needs
-
-array-read-t34 : tie.Need-array-read-t34
-array-read-t34 c = search needs
-
-stopped-requires-2 : tie.Need-stopped-requires-2
-stopped-requires-2 c κs = search needs
 
 returns-2 : tie.Need-returns-2
 returns-2 c =
@@ -106,38 +64,11 @@ returns-2 c =
     let s = start k in
     c .stopped2 .ensures ∙ ap factor3 (stops-second3 F (l-of s) (a-of s) (l11 k) (l21 k) (c .before .before .before .pivot-step2 .ensures) (c .before .enum-told2 .given .1) ∙ first k)
 
-array-read-l31 : tie.Need-array-read-l31
-array-read-l31 c = search needs
-
-array-read-l32 : tie.Need-array-read-l32
-array-read-l32 c = search needs
-
-array-read-pivot-step-3 : tie.Need-array-read-pivot-step-3
-array-read-pivot-step-3 c = search needs
-
-pivot-step-requires-3 : tie.Need-pivot-step-requires-3
-pivot-step-requires-3 c κs = search needs
-
-enum-known-p3 : tie.Need-enum-known-p3
-enum-known-p3 c = search needs
-
-enum-told-3 : tie.Need-enum-told-3
-enum-told-3 c = search needs
-
-array-read-t47 : tie.Need-array-read-t47
-array-read-t47 c = search needs
-
-stopped-requires-3 : tie.Need-stopped-requires-3
-stopped-requires-3 c κs = search needs
-
 returns-3 : tie.Need-returns-3
 returns-3 c =
     let k = c .before .before .before .before in
     let s = start (one k) in
     c .stopped3 .ensures ∙ ap factor3 (stops-third3 F (l-of s) (a-of s) (l11 (one k)) (l21 (one k)) (l22 k) (l31 k) (l32 k) (c .before .before .before .pivot-step3 .ensures) (c .before .enum-told3 .given .1) ∙ second k)
-
-whole-requires : tie.Need-whole-requires
-whole-requires c κs = search needs
 
 returns-4 : tie.Need-returns-4
 returns-4 c =
@@ -149,31 +80,31 @@ pub steps-spec : {M : Type 1} → statement M
 steps-spec =
     tie.close
     (tie.spec
-    array-read-pivot-step
-    pivot-step-requires
-    enum-known-p1
+    (λ c. search needs)
+    (λ c κs. search needs)
+    (λ c. search needs)
     enum-told
-    stopped-requires
+    (λ c κs. search needs)
     returns
-    array-read-l21
-    array-read-pivot-step-2
-    pivot-step-requires-2
-    enum-known-p2
-    enum-told-2
-    array-read-t25
-    array-read-t28
-    array-read-t31
-    array-read-t34
-    stopped-requires-2
+    (λ c. search needs)
+    (λ c. search needs)
+    (λ c κs. search needs)
+    (λ c. search needs)
+    (λ c. search needs)
+    (λ c. search needs)
+    (λ c. search needs)
+    (λ c. search needs)
+    (λ c. search needs)
+    (λ c κs. search needs)
     returns-2
-    array-read-l31
-    array-read-l32
-    array-read-pivot-step-3
-    pivot-step-requires-3
-    enum-known-p3
-    enum-told-3
-    array-read-t47
-    stopped-requires-3
+    (λ c. search needs)
+    (λ c. search needs)
+    (λ c. search needs)
+    (λ c κs. search needs)
+    (λ c. search needs)
+    (λ c. search needs)
+    (λ c. search needs)
+    (λ c κs. search needs)
     returns-3
-    whole-requires
+    (λ c κs. search needs)
     returns-4)

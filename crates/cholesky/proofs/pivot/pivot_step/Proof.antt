@@ -1,4 +1,4 @@
--- The test is the definition's, and the root is the root. Assumes nothing.
+-- The test is the definition's, and the root is the root.
 use mathlib.Core.Path.{_≡_}
 use mathlib.Core.Bool.{true, false}
 use borrow.Author.Needs.{needs}
@@ -8,9 +8,6 @@ use Rattle.float.specs.Constants.{zeroF}
 use Rattle.cholesky.specs.Pivot.{pivotOf}
 use Rattle.cholesky.proofs.pivot.pivot_step.Statement.{statement}
 use Rattle.cholesky.proofs.pivot.pivot_step.Tie as tie
-
-root-requires : tie.Need-root-requires
-root-requires c κs = search needs
 
 returns : tie.Need-returns
 unfolding pivotOf
@@ -25,4 +22,4 @@ returns-2 c =
     rw (passed, c .root .ensures .is)
 
 pub pivot-step-spec : {M : Type 1} → statement M
-pivot-step-spec = tie.close (tie.spec root-requires returns returns-2)
+pivot-step-spec = tie.close (tie.spec (λ c κs. search needs) returns returns-2)

@@ -1,4 +1,4 @@
--- Each return is one outcome of the comparison. Assumes nothing.
+-- Each return is one outcome of the comparison.
 use Rattle.eigen.specs.Eigen2x2.{axesOf}
 use Rattle.eigen.proofs.eigen2x2.axes.Statement.{statement}
 use Rattle.eigen.proofs.eigen2x2.axes.Tie as tie

@@ -1,31 +1,13 @@
--- Each return is one outcome of the tests of values and vectors. Assumes nothing.
+-- Each return is one outcome of the tests of values and vectors.
 use borrow.Author.Needs.{needs}
 use Rattle.eigen.specs.Eigen2x2.{judged2}
 use Rattle.float.proofs.Branches.{fails, passes}
 use Rattle.eigen.proofs.eigen2x2.judge.Statement.{statement}
 use Rattle.eigen.proofs.eigen2x2.judge.Tie as tie
 
-slice-aggregate-all-finite : tie.Need-slice-aggregate-all-finite
-slice-aggregate-all-finite c = search needs
-
-all-finite-requires : tie.Need-all-finite-requires
-all-finite-requires c κs = search needs
-
-refused-requires : tie.Need-refused-requires
-refused-requires c κs = search needs
-
 returns : tie.Need-returns
 unfolding judged2
 returns c = simp (c .refused .ensures, fails (c .before .before .all-finite .ensures) (c .before .if1 .taken))
-
-slice-aggregate-all-finite-2 : tie.Need-slice-aggregate-all-finite-2
-slice-aggregate-all-finite-2 c = search needs
-
-all-finite-requires-2 : tie.Need-all-finite-requires-2
-all-finite-requires-2 c κs = search needs
-
-refused-requires-2 : tie.Need-refused-requires-2
-refused-requires-2 c κs = search needs
 
 returns-2 : tie.Need-returns-2
 unfolding judged2
@@ -44,12 +26,12 @@ pub judge-spec : {M : Type 1} → statement M
 judge-spec =
     tie.close
     (tie.spec
-    slice-aggregate-all-finite
-    all-finite-requires
-    refused-requires
+    (λ c. search needs)
+    (λ c κs. search needs)
+    (λ c κs. search needs)
     returns
-    slice-aggregate-all-finite-2
-    all-finite-requires-2
-    refused-requires-2
+    (λ c. search needs)
+    (λ c κs. search needs)
+    (λ c κs. search needs)
     returns-2
     returns-3)

@@ -1,18 +1,9 @@
--- Each return is one outcome of the test of the values. Assumes nothing.
+-- Each return is one outcome of the test of the values.
 use borrow.Author.Needs.{needs}
 use Rattle.eigen.specs.Eigen2x2.{judgedValues2}
 use Rattle.float.proofs.Branches.{fails, passes}
 use Rattle.eigen.proofs.eigen2x2.judge_values.Statement.{statement}
 use Rattle.eigen.proofs.eigen2x2.judge_values.Tie as tie
-
-slice-aggregate-all-finite : tie.Need-slice-aggregate-all-finite
-slice-aggregate-all-finite c = search needs
-
-all-finite-requires : tie.Need-all-finite-requires
-all-finite-requires c κs = search needs
-
-refused-values-requires : tie.Need-refused-values-requires
-refused-values-requires c κs = search needs
 
 returns : tie.Need-returns
 unfolding judgedValues2
@@ -26,8 +17,8 @@ pub judge-values-spec : {M : Type 1} → statement M
 judge-values-spec =
     tie.close
     (tie.spec
-    slice-aggregate-all-finite
-    all-finite-requires
-    refused-values-requires
+    (λ c. search needs)
+    (λ c κs. search needs)
+    (λ c κs. search needs)
     returns
     returns-2)

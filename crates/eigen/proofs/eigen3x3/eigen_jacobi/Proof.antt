@@ -1,31 +1,13 @@
--- Each return is one outcome of the test of the input; the answer past it is judged from the last state. Assumes nothing.
+-- Each return is one outcome of the test of the input; the answer past it is judged from the last state.
 use borrow.Author.Needs.{needs}
 use Rattle.eigen.specs.Eigen3x3.{endOf, eigenOf}
 use Rattle.float.proofs.Branches.{fails, passes}
 use Rattle.eigen.proofs.eigen3x3.eigen_jacobi.Statement.{statement}
 use Rattle.eigen.proofs.eigen3x3.eigen_jacobi.Tie as tie
 
-slice-aggregate-all-finite : tie.Need-slice-aggregate-all-finite
-slice-aggregate-all-finite c = search needs
-
-all-finite-requires : tie.Need-all-finite-requires
-all-finite-requires c κs = search needs
-
-refused-requires : tie.Need-refused-requires
-refused-requires c κs = search needs
-
 returns : tie.Need-returns
 unfolding eigenOf
 returns c = simp (c .refused .ensures, fails (c .before .before .all-finite .ensures) (c .before .if1 .taken))
-
-work-requires : tie.Need-work-requires
-work-requires c κs = search needs
-
-rank-requires : tie.Need-rank-requires
-rank-requires c κs = search needs
-
-judge-requires : tie.Need-judge-requires
-judge-requires c κs = search needs
 
 returns-2 : tie.Need-returns-2
 unfolding eigenOf endOf
@@ -37,11 +19,11 @@ pub eigen-jacobi-spec : {M : Type 1} → statement M
 eigen-jacobi-spec =
     tie.close
     (tie.spec
-    slice-aggregate-all-finite
-    all-finite-requires
-    refused-requires
+    (λ c. search needs)
+    (λ c κs. search needs)
+    (λ c κs. search needs)
     returns
-    work-requires
-    rank-requires
-    judge-requires
+    (λ c κs. search needs)
+    (λ c κs. search needs)
+    (λ c κs. search needs)
     returns-2)

@@ -1,31 +1,13 @@
--- Each return is one outcome of the tests of matrix and vectors. Assumes nothing.
+-- Each return is one outcome of the tests of matrix and vectors.
 use borrow.Author.Needs.{needs}
 use Rattle.eigen.specs.Eigen3x3.{judgedEigen}
 use Rattle.float.proofs.Branches.{fails, passes}
 use Rattle.eigen.proofs.eigen3x3.judge.Statement.{statement}
 use Rattle.eigen.proofs.eigen3x3.judge.Tie as tie
 
-slice-aggregate-all-finite : tie.Need-slice-aggregate-all-finite
-slice-aggregate-all-finite c = search needs
-
-all-finite-requires : tie.Need-all-finite-requires
-all-finite-requires c κs = search needs
-
-refused-requires : tie.Need-refused-requires
-refused-requires c κs = search needs
-
 returns : tie.Need-returns
 unfolding judgedEigen
 returns c = simp (c .refused .ensures, fails (c .before .before .all-finite .ensures) (c .before .if1 .taken))
-
-slice-aggregate-all-finite-2 : tie.Need-slice-aggregate-all-finite-2
-slice-aggregate-all-finite-2 c = search needs
-
-all-finite-requires-2 : tie.Need-all-finite-requires-2
-all-finite-requires-2 c κs = search needs
-
-refused-requires-2 : tie.Need-refused-requires-2
-refused-requires-2 c κs = search needs
 
 returns-2 : tie.Need-returns-2
 unfolding judgedEigen
@@ -35,9 +17,6 @@ returns-2 c =
       passes (c .before .before .before .before .before .all-finite .ensures) (c .before .before .before .before .if1 .left),
       fails (c .before .before .all-finite2 .ensures) (c .before .if2 .taken),
     )
-
-is-settled-requires : tie.Need-is-settled-requires
-is-settled-requires c κs = search needs
 
 returns-3 : tie.Need-returns-3
 unfolding judgedEigen
@@ -52,13 +31,13 @@ pub judge-spec : {M : Type 1} → statement M
 judge-spec =
     tie.close
     (tie.spec
-    slice-aggregate-all-finite
-    all-finite-requires
-    refused-requires
+    (λ c. search needs)
+    (λ c κs. search needs)
+    (λ c κs. search needs)
     returns
-    slice-aggregate-all-finite-2
-    all-finite-requires-2
-    refused-requires-2
+    (λ c. search needs)
+    (λ c κs. search needs)
+    (λ c κs. search needs)
     returns-2
-    is-settled-requires
+    (λ c κs. search needs)
     returns-3)

@@ -1,4 +1,4 @@
--- The invariant: what is left of the run, from the state at hand, leaves what the whole run leaves. The measure is the turns left. Assumes nothing.
+-- The invariant: what is left of the run, from the state at hand, leaves what the whole run leaves. The measure is the turns left.
 use mathlib.Core.Path.{_≡_, sym, ap, _∙_}
 use mathlib.Core.Bool.{Bool}
 use Prim.Native.Nat.{ℕ, _+_, _-_, _≤_}
@@ -25,20 +25,8 @@ Inv-loop b₀ v₀ count₀ b v count = (count ≤ 25) × (workOf F (25 - count)
 abbrev μ-loop : tie.MeasureT-loop
 μ-loop b₀ v₀ count₀ b v count = 25 - count
 
-zeros-requires : tie.Need-zeros-requires Inv-loop μ-loop
-zeros-requires c κs = search needs
-
-set-identity-requires : tie.Need-set-identity-requires Inv-loop μ-loop
-set-identity-requires c κs = search needs
-
 loop-holds : tie.Need-loop-holds Inv-loop μ-loop
 loop-holds c = (omega arith, rw (c .set-identity .ensures))
-
-find-largest-off-diag-requires : tie.Need-find-largest-off-diag-requires Inv-loop μ-loop
-find-largest-off-diag-requires c κs = search needs
-
-limit-requires : tie.Need-limit-requires Inv-loop μ-loop
-limit-requires c κs = search needs
 
 returns : tie.Need-returns Inv-loop μ-loop
 unfolding workOf
@@ -46,18 +34,6 @@ returns c =
     let l = c .before .before .before .before .before .loop in
     let h = sym (tested F (l .b .«data») (c .before .before .before .find-largest-off-diag .ensures) (c .before .before .limit .ensures)) ∙ c .if1 .taken in
     ap working (leaves (stepOf F) done 25 (l .count) (state (l .b) (l .v) (l .count)) h (l .inv .1))
-
-rotate-pair-requires : tie.Need-rotate-pair-requires Inv-loop μ-loop
-rotate-pair-requires c κs = search needs
-
-update-eigenvectors-requires : tie.Need-update-eigenvectors-requires Inv-loop μ-loop
-update-eigenvectors-requires c κs = search needs
-
-add-count : tie.Need-add-count Inv-loop μ-loop
-add-count c = search needs
-
-loop-less : tie.Need-loop-less Inv-loop μ-loop
-loop-less c = search needs
 
 loop-again : tie.Need-loop-again Inv-loop μ-loop
 unfolding workOf
@@ -82,15 +58,15 @@ work-spec =
     (tie.spec
     Inv-loop
     μ-loop
-    zeros-requires
-    set-identity-requires
+    (λ c κs. search needs)
+    (λ c κs. search needs)
     loop-holds
-    find-largest-off-diag-requires
-    limit-requires
+    (λ c κs. search needs)
+    (λ c κs. search needs)
     returns
-    rotate-pair-requires
-    update-eigenvectors-requires
-    add-count
-    loop-less
+    (λ c κs. search needs)
+    (λ c κs. search needs)
+    (λ c. search needs)
+    (λ c. search needs)
     loop-again
     returns-2)

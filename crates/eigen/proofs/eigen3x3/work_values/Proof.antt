@@ -1,4 +1,4 @@
--- The invariant: what is left of the run, from the state at hand, leaves what the whole run leaves. The measure is the turns left. Assumes nothing.
+-- The invariant: what is left of the run, from the state at hand, leaves what the whole run leaves. The measure is the turns left.
 use mathlib.Core.Path.{_≡_, refl, sym, ap, _∙_}
 use mathlib.Core.Bool.{Bool}
 use Prim.Native.Nat.{ℕ, _+_, _-_, _≤_}
@@ -27,27 +27,12 @@ abbrev μ-loop : tie.MeasureT-loop
 loop-holds : tie.Need-loop-holds Inv-loop μ-loop
 loop-holds c = (omega arith, refl)
 
-find-largest-off-diag-requires : tie.Need-find-largest-off-diag-requires Inv-loop μ-loop
-find-largest-off-diag-requires c κs = search needs
-
-limit-requires : tie.Need-limit-requires Inv-loop μ-loop
-limit-requires c κs = search needs
-
 returns : tie.Need-returns Inv-loop μ-loop
 unfolding bareWorkOf
 returns c =
     let l = c .before .before .before .before .before .loop in
     let h = sym (tested F (l .b .«data») (c .before .before .before .find-largest-off-diag .ensures) (c .before .before .limit .ensures)) ∙ c .if1 .taken in
     ap bare (leaves (bareStepOf F) done 25 (l .count) (state (l .b) (l .count)) h (l .inv .1))
-
-rotate-pair-requires : tie.Need-rotate-pair-requires Inv-loop μ-loop
-rotate-pair-requires c κs = search needs
-
-add-count : tie.Need-add-count Inv-loop μ-loop
-add-count c = search needs
-
-loop-less : tie.Need-loop-less Inv-loop μ-loop
-loop-less c = search needs
 
 loop-again : tie.Need-loop-again Inv-loop μ-loop
 unfolding bareWorkOf
@@ -73,11 +58,11 @@ work-values-spec =
     Inv-loop
     μ-loop
     loop-holds
-    find-largest-off-diag-requires
-    limit-requires
+    (λ c κs. search needs)
+    (λ c κs. search needs)
     returns
-    rotate-pair-requires
-    add-count
-    loop-less
+    (λ c κs. search needs)
+    (λ c. search needs)
+    (λ c. search needs)
     loop-again
     returns-2)

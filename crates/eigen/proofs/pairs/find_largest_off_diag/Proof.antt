@@ -1,26 +1,8 @@
--- Each return is one outcome of two comparisons of magnitudes. Assumes nothing.
+-- Each return is one outcome of two comparisons of magnitudes.
 use borrow.Author.Needs.{needs}
 use Rattle.eigen.specs.Pairs.{largestOf}
 use Rattle.eigen.proofs.pairs.find_largest_off_diag.Statement.{statement}
 use Rattle.eigen.proofs.pairs.find_largest_off_diag.Tie as tie
-
-array-read-magnitude : tie.Need-array-read-magnitude
-array-read-magnitude c = search needs
-
-magnitude-requires : tie.Need-magnitude-requires
-magnitude-requires c κs = search needs
-
-array-read-magnitude-2 : tie.Need-array-read-magnitude-2
-array-read-magnitude-2 c = search needs
-
-magnitude-requires-2 : tie.Need-magnitude-requires-2
-magnitude-requires-2 c κs = search needs
-
-array-read-magnitude-3 : tie.Need-array-read-magnitude-3
-array-read-magnitude-3 c = search needs
-
-magnitude-requires-3 : tie.Need-magnitude-requires-3
-magnitude-requires-3 c κs = search needs
 
 returns : tie.Need-returns
 unfolding largestOf
@@ -42,12 +24,12 @@ pub find-largest-off-diag-spec : {M : Type 1} → statement M
 find-largest-off-diag-spec =
     tie.close
     (tie.spec
-    array-read-magnitude
-    magnitude-requires
-    array-read-magnitude-2
-    magnitude-requires-2
-    array-read-magnitude-3
-    magnitude-requires-3
+    (λ c. search needs)
+    (λ c κs. search needs)
+    (λ c. search needs)
+    (λ c κs. search needs)
+    (λ c. search needs)
+    (λ c κs. search needs)
     returns
     returns-2
     returns-3

@@ -1,4 +1,4 @@
--- Each return is one pair, and the call there answers for it. Assumes nothing.
+-- Each return is one pair, and the call there answers for it.
 use borrow.Author.Needs.{needs}
 use Rattle.eigen.specs.Pairs.{turnedOf}
 use Rattle.eigen.proofs.pairs.turn_columns.Statement.{statement}
@@ -6,21 +6,6 @@ use Rattle.eigen.proofs.pairs.turn_columns.Tie as tie
 
 enum-told : tie.Need-enum-told
 enum-told c = search needs
-
-turn12-requires : tie.Need-turn12-requires
-turn12-requires c κs = search needs
-
-enum-told-2 : tie.Need-enum-told-2
-enum-told-2 c = search needs
-
-turn13-requires : tie.Need-turn13-requires
-turn13-requires c κs = search needs
-
-enum-told-3 : tie.Need-enum-told-3
-enum-told-3 c = search needs
-
-turn23-requires : tie.Need-turn23-requires
-turn23-requires c κs = search needs
 
 returns : tie.Need-returns
 unfolding turnedOf
@@ -39,11 +24,11 @@ turn-columns-spec =
     tie.close
     (tie.spec
     enum-told
-    turn12-requires
-    enum-told-2
-    turn13-requires
-    enum-told-3
-    turn23-requires
+    (λ c κs. search needs)
+    (λ c. search needs)
+    (λ c κs. search needs)
+    (λ c. search needs)
+    (λ c κs. search needs)
     returns
     returns-2
     returns-3)

@@ -1,4 +1,4 @@
--- The code's three tests are those of the definition, since `larger` and `magnitude` answer by its names; each return is one way through the choice. Assumes nothing.
+-- The code's three tests are those of the definition, since `larger` and `magnitude` answer by its names; each return is one way through the choice.
 use mathlib.Core.Path.{_≡_, sym, ap, _∙_}
 use borrow.Author.Needs.{needs}
 use Rattle.float.specs.Width.{F}
@@ -12,15 +12,6 @@ returns c =
     let a = c .before .args in
     ap rotation (sym (stays F (a .apq) (a .app) (a .aqq) (c .if1 .taken)))
 
-magnitude-requires : tie.Need-magnitude-requires
-magnitude-requires c κs = search needs
-
-magnitude-requires-2 : tie.Need-magnitude-requires-2
-magnitude-requires-2 c κs = search needs
-
-larger-requires : tie.Need-larger-requires
-larger-requires c κs = search needs
-
 larger-diagonal : (c : tie.After-larger) → let a = c .before .before .before .before .args in c .larger .result ≡ diagonalOf (a .apq) (a .app) (a .aqq)
 larger-diagonal c = simp (c .larger .ensures, c .before .magnitude2 .ensures, c .before .before .magnitude .ensures)
 
@@ -28,9 +19,6 @@ returns-2 : tie.Need-returns-2
 returns-2 c =
     let a = c .before .before .before .before .before .args in
     ap rotation (sym (tiny F (a .apq) (a .app) (a .aqq) (c .before .before .before .before .if1 .left) (rw (larger-diagonal (c .before)) at (c .if2 .taken))))
-
-magnitude-requires-3 : tie.Need-magnitude-requires-3
-magnitude-requires-3 c κs = search needs
 
 returns-3 : tie.Need-returns-3
 returns-3 c =
@@ -40,12 +28,6 @@ returns-3 c =
     (sym
     (level F (a .apq) (a .app) (a .aqq) (c .before .before .before .before .before .before .if1 .left) (rw d at (c .before .before .if2 .left))
     (rw (d, c .before .magnitude3 .ensures) at (c .if3 .taken))))
-
-tangent-requires : tie.Need-tangent-requires
-tangent-requires c κs = search needs
-
-turned-by-requires : tie.Need-turned-by-requires
-turned-by-requires c κs = search needs
 
 returns-4 : tie.Need-returns-4
 returns-4 c =
@@ -63,12 +45,12 @@ compute-jacobi-rotation-spec =
     tie.close
     (tie.spec
     returns
-    magnitude-requires
-    magnitude-requires-2
-    larger-requires
+    (λ c κs. search needs)
+    (λ c κs. search needs)
+    (λ c κs. search needs)
     returns-2
-    magnitude-requires-3
+    (λ c κs. search needs)
     returns-3
-    tangent-requires
-    turned-by-requires
+    (λ c κs. search needs)
+    (λ c κs. search needs)
     returns-4)

@@ -1,4 +1,4 @@
--- Each return is one outcome of the comparison. Assumes nothing.
+-- Each return is one outcome of the comparison.
 use Rattle.eigen.proofs.rotation.larger.Statement.{statement}
 use Rattle.eigen.proofs.rotation.larger.Tie as tie
 

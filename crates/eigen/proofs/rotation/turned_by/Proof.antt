@@ -1,13 +1,10 @@
--- The root is the one that the definition names. Assumes nothing.
+-- The root is the one that the definition names.
 use borrow.Author.Needs.{needs}
 use Rattle.eigen.proofs.rotation.turned_by.Statement.{statement}
 use Rattle.eigen.proofs.rotation.turned_by.Tie as tie
-
-root-requires : tie.Need-root-requires
-root-requires c κs = search needs
 
 returns : tie.Need-returns
 returns c = rw (c .root .ensures .is)
 
 pub turned-by-spec : {M : Type 1} → statement M
-turned-by-spec = tie.close (tie.spec root-requires returns)
+turned-by-spec = tie.close (tie.spec (λ c κs. search needs) returns)

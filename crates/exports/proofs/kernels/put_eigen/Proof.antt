@@ -1,4 +1,4 @@
--- Each part stands behind those before it, and the last ends at the end. Assumes nothing.
+-- Each part stands behind those before it, and the last ends at the end.
 use mathlib.Core.Path.{sym, _∙_}
 use borrow.Author.Needs.{needs}
 use lib.Seq.{take-all}
@@ -6,18 +6,6 @@ use Rattle.eigen.specs.Eigen3x3.{ofEigen3}
 use Rattle.exports.specs.Kernels.{eigenNumbers}
 use Rattle.exports.proofs.kernels.put_eigen.Statement.{statement}
 use Rattle.exports.proofs.kernels.put_eigen.Tie as tie
-
-put-three-requires : tie.Need-put-three-requires
-put-three-requires c κs = search needs
-
-put-mat3-requires : tie.Need-put-mat3-requires
-put-mat3-requires c κs = search needs
-
-put-sym3-requires : tie.Need-put-sym3-requires
-put-sym3-requires c κs = search needs
-
-same-length : tie.Need-same-length
-same-length c = search needs
 
 returns : tie.Need-returns
 returns c =
@@ -28,4 +16,4 @@ returns c =
 
 pub put-eigen-spec : {M : Type 1} → statement M
 put-eigen-spec =
-    tie.close (tie.spec put-three-requires put-mat3-requires put-sym3-requires same-length returns)
+    tie.close (tie.spec (λ c κs. search needs) (λ c κs. search needs) (λ c κs. search needs) (λ c. search needs) returns)

@@ -1,25 +1,10 @@
--- Each part stands behind those before it, and the last ends at the end. Assumes nothing.
+-- Each part stands behind those before it, and the last ends at the end.
 use mathlib.Core.Path.{sym, _∙_}
 use borrow.Author.Needs.{needs}
 use lib.Seq.{take-all}
 use Rattle.exports.specs.Kernels.{ofSvd3, svdNumbers}
 use Rattle.exports.proofs.kernels.put_svd.Statement.{statement}
 use Rattle.exports.proofs.kernels.put_svd.Tie as tie
-
-put-three-requires : tie.Need-put-three-requires
-put-three-requires c κs = search needs
-
-put-mat3-requires : tie.Need-put-mat3-requires
-put-mat3-requires c κs = search needs
-
-put-mat3-requires-2 : tie.Need-put-mat3-requires-2
-put-mat3-requires-2 c κs = search needs
-
-put-mat3-requires-3 : tie.Need-put-mat3-requires-3
-put-mat3-requires-3 c κs = search needs
-
-same-length : tie.Need-same-length
-same-length c = search needs
 
 returns : tie.Need-returns
 returns c =
@@ -33,9 +18,9 @@ pub put-svd-spec : {M : Type 1} → statement M
 put-svd-spec =
     tie.close
     (tie.spec
-    put-three-requires
-    put-mat3-requires
-    put-mat3-requires-2
-    put-mat3-requires-3
-    same-length
+    (λ c κs. search needs)
+    (λ c κs. search needs)
+    (λ c κs. search needs)
+    (λ c κs. search needs)
+    (λ c. search needs)
     returns)

@@ -1,4 +1,4 @@
--- The lengths passed, out takes the factor that is handed back. Assumes nothing.
+-- The lengths passed, out takes the factor that is handed back.
 use mathlib.Core.Path.{_≡_, refl}
 use native.Mathlib.Omega.{arith}
 use borrow.Author.Needs.{needs}
@@ -24,25 +24,10 @@ returns-3 : tie.Need-returns-3
 unfolding factor2Into
 returns-3 c = rw (eq-eqb _ 3 (c .before .before .if1 .left), eq-eqb _ 3 (c .before .if2 .left), ne-eqb _ 3 (c .if3 .taken)) (refl, refl)
 
-sym2-of-requires : tie.Need-sym2-of-requires
-sym2-of-requires c κs = search needs
-
-sym2-of-requires-2 : tie.Need-sym2-of-requires-2
-sym2-of-requires-2 c κs = search needs
-
-cholesky-2x2-explicit-factor-requires : tie.Need-cholesky-2x2-explicit-factor-requires
-cholesky-2x2-explicit-factor-requires c κs = search needs
-
-slice-aggregate-put : tie.Need-slice-aggregate-put
-slice-aggregate-put c = search needs
-
 put-requires : tie.Need-put-requires
 put-requires c κs =
     let l : length (c .before .before .before .before .cholesky-2x2-explicit-factor .result .factor .«data») ≡ 3 = search needs in
     omega arith
-
-same-length : tie.Need-same-length
-same-length c = search needs
 
 returns-4 : tie.Need-returns-4
 unfolding factor2Into
@@ -62,10 +47,10 @@ zanikory-cholesky-2x2-factor-spec =
     returns
     returns-2
     returns-3
-    sym2-of-requires
-    sym2-of-requires-2
-    cholesky-2x2-explicit-factor-requires
-    slice-aggregate-put
+    (λ c κs. search needs)
+    (λ c κs. search needs)
+    (λ c κs. search needs)
+    (λ c. search needs)
     put-requires
-    same-length
+    (λ c. search needs)
     returns-4)

@@ -1,4 +1,4 @@
--- Both lengths passed, the solution answers. Assumes nothing.
+-- Both lengths passed, the solution answers.
 use mathlib.Core.Path.{refl}
 use borrow.Author.Needs.{needs}
 use borrow.Author.Tests.{le-leb, lt-leb, eq-eqb, ne-eqb}
@@ -14,15 +14,6 @@ returns-2 : tie.Need-returns-2
 unfolding solve2Into
 returns-2 c = rw (le-leb 2 _ (c .before .if1 .left), ne-eqb _ 3 (c .if2 .taken)) (refl, refl)
 
-sym2-of-requires : tie.Need-sym2-of-requires
-sym2-of-requires c κs = search needs
-
-cholesky-2x2-explicit-solve-requires : tie.Need-cholesky-2x2-explicit-solve-requires
-cholesky-2x2-explicit-solve-requires c κs = search needs
-
-same-length : tie.Need-same-length
-same-length c = search needs
-
 returns-3 : tie.Need-returns-3
 unfolding solve2Into
 returns-3 c =
@@ -35,7 +26,7 @@ zanikory-cholesky-2x2-solve-spec =
     (tie.spec
     returns
     returns-2
-    sym2-of-requires
-    cholesky-2x2-explicit-solve-requires
-    same-length
+    (λ c κs. search needs)
+    (λ c κs. search needs)
+    (λ c. search needs)
     returns-3)

@@ -1,4 +1,4 @@
--- Both lengths passed, the solution answers. Assumes nothing.
+-- Both lengths passed, the solution answers.
 use mathlib.Core.Path.{refl}
 use borrow.Author.Needs.{needs}
 use borrow.Author.Tests.{le-leb, lt-leb, eq-eqb, ne-eqb}
@@ -14,15 +14,6 @@ returns-2 : tie.Need-returns-2
 unfolding solve3Into
 returns-2 c = rw (le-leb 3 _ (c .before .if1 .left), ne-eqb _ 6 (c .if2 .taken)) (refl, refl)
 
-sym3-of-requires : tie.Need-sym3-of-requires
-sym3-of-requires c κs = search needs
-
-cholesky-3x3-explicit-solve-requires : tie.Need-cholesky-3x3-explicit-solve-requires
-cholesky-3x3-explicit-solve-requires c κs = search needs
-
-same-length : tie.Need-same-length
-same-length c = search needs
-
 returns-3 : tie.Need-returns-3
 unfolding solve3Into
 returns-3 c =
@@ -35,7 +26,7 @@ zanikory-cholesky-3x3-solve-spec =
     (tie.spec
     returns
     returns-2
-    sym3-of-requires
-    cholesky-3x3-explicit-solve-requires
-    same-length
+    (λ c κs. search needs)
+    (λ c κs. search needs)
+    (λ c. search needs)
     returns-3)

@@ -1,4 +1,4 @@
--- Both lengths passed, out takes the numbers of the answer, if there is one. Assumes nothing.
+-- Both lengths passed, out takes the numbers of the answer, if there is one.
 use mathlib.Core.Path.{refl, sym, ap, _∙_}
 use borrow.Author.Needs.{needs}
 use borrow.Author.Tests.{eq-eqb, ne-eqb}
@@ -16,24 +16,12 @@ returns-2 : tie.Need-returns-2
 unfolding eigen3Into
 returns-2 c = rw (eq-eqb _ 18 (c .before .if1 .left), ne-eqb _ 6 (c .if2 .taken)) (refl, refl)
 
-sym3-of-requires : tie.Need-sym3-of-requires
-sym3-of-requires c κs = search needs
-
-eigen-jacobi-requires : tie.Need-eigen-jacobi-requires
-eigen-jacobi-requires c κs = search needs
-
 returns-3 : tie.Need-returns-3
 unfolding eigen3Into
 returns-3 c =
     let m = c .before .before in
     let e = ap (λ (r : Eigen3). r .code) (rw (m .sym3-of .ensures) at (c .before .eigen-jacobi .ensures)) in
     rw (eq-eqb _ 18 (m .before .before .if1 .left), eq-eqb _ 6 (m .before .if2 .left), ← e, ne-eqb _ 0 (c .if3 .taken)) (refl, refl)
-
-put-eigen-requires : tie.Need-put-eigen-requires
-put-eigen-requires c κs = search needs
-
-same-length : tie.Need-same-length
-same-length c = search needs
 
 returns-4 : tie.Need-returns-4
 unfolding eigen3Into
@@ -50,9 +38,9 @@ zanikory-eigen-3x3-spec =
     (tie.spec
     returns
     returns-2
-    sym3-of-requires
-    eigen-jacobi-requires
+    (λ c κs. search needs)
+    (λ c κs. search needs)
     returns-3
-    put-eigen-requires
-    same-length
+    (λ c κs. search needs)
+    (λ c. search needs)
     returns-4)

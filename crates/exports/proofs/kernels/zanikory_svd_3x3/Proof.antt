@@ -1,4 +1,4 @@
--- Both lengths passed, out takes the numbers of the answer, if there is one. Assumes nothing.
+-- Both lengths passed, out takes the numbers of the answer, if there is one.
 use mathlib.Core.Path.{refl, sym, ap, _∙_}
 use borrow.Author.Needs.{needs}
 use borrow.Author.Tests.{eq-eqb, ne-eqb}
@@ -15,24 +15,12 @@ returns-2 : tie.Need-returns-2
 unfolding svd3Into
 returns-2 c = rw (eq-eqb _ 30 (c .before .if1 .left), ne-eqb _ 9 (c .if2 .taken)) (refl, refl)
 
-mat3-of-requires : tie.Need-mat3-of-requires
-mat3-of-requires c κs = search needs
-
-svd-requires : tie.Need-svd-requires
-svd-requires c κs = search needs
-
 returns-3 : tie.Need-returns-3
 unfolding svd3Into
 returns-3 c =
     let m = c .before .before in
     let e = ap (λ (r : Svd3). r .code) (rw (m .mat3-of .ensures) at (c .before .svd .ensures)) in
     rw (eq-eqb _ 30 (m .before .before .if1 .left), eq-eqb _ 9 (m .before .if2 .left), ← e, ne-eqb _ 0 (c .if3 .taken)) (refl, refl)
-
-put-svd-requires : tie.Need-put-svd-requires
-put-svd-requires c κs = search needs
-
-same-length : tie.Need-same-length
-same-length c = search needs
 
 returns-4 : tie.Need-returns-4
 unfolding svd3Into
@@ -49,9 +37,9 @@ zanikory-svd-3x3-spec =
     (tie.spec
     returns
     returns-2
-    mat3-of-requires
-    svd-requires
+    (λ c κs. search needs)
+    (λ c κs. search needs)
     returns-3
-    put-svd-requires
-    same-length
+    (λ c κs. search needs)
+    (λ c. search needs)
     returns-4)

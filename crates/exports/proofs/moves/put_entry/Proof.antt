@@ -1,4 +1,4 @@
--- A store at the only place leaves the number alone. Assumes nothing.
+-- A store at the only place leaves the number alone.
 use mathlib.Core.Path.{_≡_, refl}
 use mathlib.Core.List.{List, [], _∷_}
 use native.Mathlib.Omega.{arith}
@@ -13,27 +13,12 @@ only [] x e = absurd (omega arith)
 only (y ∷ []) x e = refl
 only (y ∷ z ∷ ys) x e = absurd (omega arith)
 
-enum-known-x : tie.Need-enum-known-x
-enum-known-x c = search needs
-
-slice-write-out : tie.Need-slice-write-out
-slice-write-out c = search needs
-
 enum-told : tie.Need-enum-told
 enum-told c = search needs
-
-slice-write-out-2 : tie.Need-slice-write-out-2
-slice-write-out-2 c = search needs
-
-same-length : tie.Need-same-length
-same-length c = search needs
 
 returns : tie.Need-returns
 returns c =
     rw (c .before .x .given .1) (refl, only (c .before .before .before .args .out .now) _ (c .before .before .before .pre))
-
-same-length-2 : tie.Need-same-length-2
-same-length-2 c = search needs
 
 returns-2 : tie.Need-returns-2
 returns-2 c =
@@ -43,11 +28,11 @@ pub put-entry-spec : {M : Type 1} → statement M
 put-entry-spec =
     tie.close
     (tie.spec
-    enum-known-x
-    slice-write-out
+    (λ c. search needs)
+    (λ c. search needs)
     enum-told
-    slice-write-out-2
-    same-length
+    (λ c. search needs)
+    (λ c. search needs)
     returns
-    same-length-2
+    (λ c. search needs)
     returns-2)

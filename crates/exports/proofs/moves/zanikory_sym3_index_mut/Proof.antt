@@ -1,4 +1,4 @@
--- Both lengths passed, out takes the copy that was written. Assumes nothing.
+-- Both lengths passed, out takes the copy that was written.
 use mathlib.Core.Path.{_≡_, refl}
 use native.Mathlib.Omega.{arith}
 use borrow.Author.Needs.{needs}
@@ -20,28 +20,10 @@ returns-2 : tie.Need-returns-2
 unfolding packedWriteOf
 returns-2 c = rw (eq-eqb _ 6 (c .before .if1 .left), ne-eqb _ 6 (c .if2 .taken)) (refl, refl)
 
-zeros-requires : tie.Need-zeros-requires
-zeros-requires c κs = search needs
-
-sym3-of-requires : tie.Need-sym3-of-requires
-sym3-of-requires c κs = search needs
-
-copy-from-requires : tie.Need-copy-from-requires
-copy-from-requires c κs = search needs
-
-index-mut-requires : tie.Need-index-mut-requires
-index-mut-requires c κs = search needs
-
-slice-aggregate-put : tie.Need-slice-aggregate-put
-slice-aggregate-put c = search needs
-
 put-requires : tie.Need-put-requires
 put-requires c κs =
     let l : length (c .before .before .before .before .index-mut .result .matrix .«data») ≡ 6 = search needs in
     omega arith
-
-same-length : tie.Need-same-length
-same-length c = search needs
 
 returns-3 : tie.Need-returns-3
 unfolding packedWriteOf
@@ -60,11 +42,11 @@ zanikory-sym3-index-mut-spec =
     (tie.spec
     returns
     returns-2
-    zeros-requires
-    sym3-of-requires
-    copy-from-requires
-    index-mut-requires
-    slice-aggregate-put
+    (λ c κs. search needs)
+    (λ c κs. search needs)
+    (λ c κs. search needs)
+    (λ c κs. search needs)
+    (λ c. search needs)
     put-requires
-    same-length
+    (λ c. search needs)
     returns-3)

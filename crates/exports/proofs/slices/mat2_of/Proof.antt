@@ -1,18 +1,12 @@
--- The array takes all of the slice. Assumes nothing.
+-- The array takes all of the slice.
 use mathlib.Core.Path.{ap}
 use borrow.Author.Needs.{needs}
 use Rattle.matrix.specs.Square.{mat2}
 use Rattle.exports.proofs.slices.mat2_of.Statement.{statement}
 use Rattle.exports.proofs.slices.mat2_of.Tie as tie
 
-slice-aggregate-put : tie.Need-slice-aggregate-put
-slice-aggregate-put c = search needs
-
-put-requires : tie.Need-put-requires
-put-requires c κs = search needs
-
 returns : tie.Need-returns
 returns c = ap mat2 (c .before .put .ensures)
 
 pub mat2-of-spec : {M : Type 1} → statement M
-mat2-of-spec = tie.close (tie.spec slice-aggregate-put put-requires returns)
+mat2-of-spec = tie.close (tie.spec (λ c. search needs) (λ c κs. search needs) returns)

@@ -1,4 +1,4 @@
--- From the first place on, to the last. Assumes nothing.
+-- From the first place on, to the last.
 use mathlib.Core.Path.{sym, _∙_}
 use Prim.Native.Nat.{_+_}
 use lib.ListN.{length}
@@ -7,16 +7,10 @@ use borrow.Author.Needs.{needs}
 use Rattle.exports.proofs.slices.put.Statement.{statement}
 use Rattle.exports.proofs.slices.put.Tie as tie
 
-put-at-requires : tie.Need-put-at-requires
-put-at-requires c κs = search needs
-
-same-length : tie.Need-same-length
-same-length c = search needs
-
 returns : tie.Need-returns
 returns c =
     let n = c .before .before .before .before .before .before .args .numbers .now in
     sym (take-all (0 + length n) (c .before .before .put-at .last .0) (search needs)) ∙ c .before .before .put-at .ensures
 
 pub put-spec : {M : Type 1} → statement M
-put-spec = tie.close (tie.spec put-at-requires same-length returns)
+put-spec = tie.close (tie.spec (λ c κs. search needs) (λ c. search needs) returns)

@@ -1,4 +1,4 @@
--- The type says how many numbers there are. Assumes nothing.
+-- The type says how many numbers there are.
 use mathlib.Core.Path.{_≡_}
 use native.Mathlib.Omega.{arith}
 use borrow.Author.Needs.{needs}
@@ -6,16 +6,10 @@ use lib.ListN.{length}
 use Rattle.exports.proofs.slices.put_mat3.Statement.{statement}
 use Rattle.exports.proofs.slices.put_mat3.Tie as tie
 
-slice-aggregate-put-at : tie.Need-slice-aggregate-put-at
-slice-aggregate-put-at c = search needs
-
 put-at-requires : tie.Need-put-at-requires
 put-at-requires c κs =
     let l : length (c .before .before .before .before .args .m .«data») ≡ 9 = search needs in
     omega arith
-
-same-length : tie.Need-same-length
-same-length c = search needs
 
 returns : tie.Need-returns
 returns c =
@@ -23,4 +17,4 @@ returns c =
     (rw l at (c .before .before .put-at .ensures))
 
 pub put-mat3-spec : {M : Type 1} → statement M
-put-mat3-spec = tie.close (tie.spec slice-aggregate-put-at put-at-requires same-length returns)
+put-mat3-spec = tie.close (tie.spec (λ c. search needs) put-at-requires (λ c. search needs) returns)

@@ -1,18 +1,12 @@
--- The array takes all of the slice. Assumes nothing.
+-- The array takes all of the slice.
 use mathlib.Core.Path.{ap}
 use borrow.Author.Needs.{needs}
 use Rattle.matrix.specs.Symmetric.{sym3}
 use Rattle.exports.proofs.slices.sym3_of.Statement.{statement}
 use Rattle.exports.proofs.slices.sym3_of.Tie as tie
 
-slice-aggregate-put : tie.Need-slice-aggregate-put
-slice-aggregate-put c = search needs
-
-put-requires : tie.Need-put-requires
-put-requires c κs = search needs
-
 returns : tie.Need-returns
 returns c = ap sym3 (c .before .put .ensures)
 
 pub sym3-of-spec : {M : Type 1} → statement M
-sym3-of-spec = tie.close (tie.spec slice-aggregate-put put-requires returns)
+sym3-of-spec = tie.close (tie.spec (λ c. search needs) (λ c κs. search needs) returns)

@@ -1,4 +1,4 @@
--- The form on patterns, between a writing and a reading of the bits; what it answers is the nearest value by `correct`. Assumes nothing.
+-- The form on patterns, between a writing and a reading of the bits; what it answers is the nearest value by `correct`.
 use mathlib.Core.Path.{ap, _∙_}
 use borrow.Author.Needs.{needs}
 use denote.Floats.{passes}
@@ -9,15 +9,6 @@ use Rattle.float.proofs.Patterns.{through-bits}
 use Rattle.float.proofs.Correct.{root-fits, promised}
 use Rattle.float.proofs.root.root.Statement.{statement}
 use Rattle.float.proofs.root.root.Tie as tie
-
-to-bits-requires : tie.Need-to-bits-requires
-to-bits-requires c κs = search needs
-
-root-bits-requires : tie.Need-root-bits-requires
-root-bits-requires c κs = search needs
-
-of-bits-requires : tie.Need-of-bits-requires
-of-bits-requires c κs = search needs
 
 returns : tie.Need-returns
 returns c =
@@ -30,4 +21,4 @@ returns c =
     ∙ through-bits F (rootOf F) x fit (root-fits F x fit))
 
 pub root-spec : {M : Type 1} → statement M
-root-spec = tie.close (tie.spec to-bits-requires root-bits-requires of-bits-requires returns)
+root-spec = tie.close (tie.spec (λ c κs. search needs) (λ c κs. search needs) (λ c κs. search needs) returns)

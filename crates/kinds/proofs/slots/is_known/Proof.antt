@@ -1,4 +1,4 @@
--- The range is tested from both ends. Assumes nothing.
+-- The range is tested from both ends.
 use native.Mathlib.Omega.{arith}
 use borrow.Author.Tests.{le-leb, lt-leb}
 use Rattle.kinds.proofs.slots.is_known.Statement.{statement}

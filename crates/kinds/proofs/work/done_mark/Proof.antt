@@ -1,4 +1,4 @@
--- The mark is that of code 0. Assumes nothing.
+-- The mark is that of code 0.
 use borrow.Author.Tests.{eq-eqb, ne-eqb}
 use Rattle.kinds.proofs.work.done_mark.Statement.{statement}
 use Rattle.kinds.proofs.work.done_mark.Tie as tie

@@ -1,37 +1,7 @@
--- Each number goes to its place, and the mark goes by the code. Assumes nothing.
+-- Each number goes to its place, and the mark goes by the code.
 use borrow.Author.Needs.{needs}
 use Rattle.kinds.proofs.work.from_solved3.Statement.{statement}
 use Rattle.kinds.proofs.work.from_solved3.Tie as tie
-
-done-mark-requires : tie.Need-done-mark-requires
-done-mark-requires c κs = search needs
-
-array-read-t8 : tie.Need-array-read-t8
-array-read-t8 c = search needs
-
-array-read-t11 : tie.Need-array-read-t11
-array-read-t11 c = search needs
-
-array-read-t14 : tie.Need-array-read-t14
-array-read-t14 c = search needs
-
-array-read-t18 : tie.Need-array-read-t18
-array-read-t18 c = search needs
-
-array-read-t21 : tie.Need-array-read-t21
-array-read-t21 c = search needs
-
-array-read-t24 : tie.Need-array-read-t24
-array-read-t24 c = search needs
-
-array-read-t27 : tie.Need-array-read-t27
-array-read-t27 c = search needs
-
-array-read-t30 : tie.Need-array-read-t30
-array-read-t30 c = search needs
-
-array-read-t33 : tie.Need-array-read-t33
-array-read-t33 c = search needs
 
 returns : tie.Need-returns
 returns c = rw (c .done-mark .ensures)
@@ -40,14 +10,14 @@ pub from-solved3-spec : {M : Type 1} → statement M
 from-solved3-spec =
     tie.close
     (tie.spec
-    done-mark-requires
-    array-read-t8
-    array-read-t11
-    array-read-t14
-    array-read-t18
-    array-read-t21
-    array-read-t24
-    array-read-t27
-    array-read-t30
-    array-read-t33
+    (λ c κs. search needs)
+    (λ c. search needs)
+    (λ c. search needs)
+    (λ c. search needs)
+    (λ c. search needs)
+    (λ c. search needs)
+    (λ c. search needs)
+    (λ c. search needs)
+    (λ c. search needs)
+    (λ c. search needs)
     returns)

@@ -1,4 +1,4 @@
--- Each arm is the choice of its kind; the kernel and what is made of its answer are those of the definition. Assumes nothing.
+-- Each arm is the choice of its kind; the kernel and what is made of its answer are those of the definition.
 use mathlib.Core.Path.{sym, ap, _∙_}
 use Prim.Native.Nat.{ℕ}
 use borrow.Author.Needs.{needs}
@@ -7,96 +7,6 @@ use Rattle.float.specs.Width.{F}
 use Rattle.kinds.specs.Work.{worked, workOf}
 use Rattle.kinds.proofs.work.work.Statement.{statement}
 use Rattle.kinds.proofs.work.work.Tie as tie
-
-sym2-requires : tie.Need-sym2-requires
-sym2-requires c κs = search needs
-
-eigen-requires : tie.Need-eigen-requires
-eigen-requires c κs = search needs
-
-from-eigen2-requires : tie.Need-from-eigen2-requires
-from-eigen2-requires c κs = search needs
-
-sym3-requires : tie.Need-sym3-requires
-sym3-requires c κs = search needs
-
-eigen-jacobi-requires : tie.Need-eigen-jacobi-requires
-eigen-jacobi-requires c κs = search needs
-
-from-eigen3-requires : tie.Need-from-eigen3-requires
-from-eigen3-requires c κs = search needs
-
-mat2-requires : tie.Need-mat2-requires
-mat2-requires c κs = search needs
-
-svd-requires : tie.Need-svd-requires
-svd-requires c κs = search needs
-
-from-svd2-requires : tie.Need-from-svd2-requires
-from-svd2-requires c κs = search needs
-
-mat3-requires : tie.Need-mat3-requires
-mat3-requires c κs = search needs
-
-svd-requires-2 : tie.Need-svd-requires-2
-svd-requires-2 c κs = search needs
-
-from-svd3-requires : tie.Need-from-svd3-requires
-from-svd3-requires c κs = search needs
-
-sym2-requires-2 : tie.Need-sym2-requires-2
-sym2-requires-2 c κs = search needs
-
-cholesky-2x2-explicit-factor-requires : tie.Need-cholesky-2x2-explicit-factor-requires
-cholesky-2x2-explicit-factor-requires c κs = search needs
-
-from-factor2-requires : tie.Need-from-factor2-requires
-from-factor2-requires c κs = search needs
-
-sym3-requires-2 : tie.Need-sym3-requires-2
-sym3-requires-2 c κs = search needs
-
-cholesky-3x3-explicit-factor-requires : tie.Need-cholesky-3x3-explicit-factor-requires
-cholesky-3x3-explicit-factor-requires c κs = search needs
-
-from-factor3-requires : tie.Need-from-factor3-requires
-from-factor3-requires c κs = search needs
-
-sym2-requires-3 : tie.Need-sym2-requires-3
-sym2-requires-3 c κs = search needs
-
-array-read-t26 : tie.Need-array-read-t26
-array-read-t26 c = search needs
-
-array-read-t29 : tie.Need-array-read-t29
-array-read-t29 c = search needs
-
-factor-and-solve-requires : tie.Need-factor-and-solve-requires
-factor-and-solve-requires c κs = search needs
-
-from-solved2-requires : tie.Need-from-solved2-requires
-from-solved2-requires c κs = search needs
-
-sym3-requires-3 : tie.Need-sym3-requires-3
-sym3-requires-3 c κs = search needs
-
-array-read-t35 : tie.Need-array-read-t35
-array-read-t35 c = search needs
-
-array-read-t38 : tie.Need-array-read-t38
-array-read-t38 c = search needs
-
-array-read-t41 : tie.Need-array-read-t41
-array-read-t41 c = search needs
-
-factor-and-solve-requires-2 : tie.Need-factor-and-solve-requires-2
-factor-and-solve-requires-2 c κs = search needs
-
-from-solved3-requires : tie.Need-from-solved3-requires
-from-solved3-requires c κs = search needs
-
-refused-requires : tie.Need-refused-requires
-refused-requires c κs = search needs
 
 returns : tie.Need-returns
 unfolding workOf
@@ -162,36 +72,36 @@ pub work-spec : {M : Type 1} → statement M
 work-spec =
     tie.close
     (tie.spec
-    sym2-requires
-    eigen-requires
-    from-eigen2-requires
-    sym3-requires
-    eigen-jacobi-requires
-    from-eigen3-requires
-    mat2-requires
-    svd-requires
-    from-svd2-requires
-    mat3-requires
-    svd-requires-2
-    from-svd3-requires
-    sym2-requires-2
-    cholesky-2x2-explicit-factor-requires
-    from-factor2-requires
-    sym3-requires-2
-    cholesky-3x3-explicit-factor-requires
-    from-factor3-requires
-    sym2-requires-3
-    array-read-t26
-    array-read-t29
-    factor-and-solve-requires
-    from-solved2-requires
-    sym3-requires-3
-    array-read-t35
-    array-read-t38
-    array-read-t41
-    factor-and-solve-requires-2
-    from-solved3-requires
-    refused-requires
+    (λ c κs. search needs)
+    (λ c κs. search needs)
+    (λ c κs. search needs)
+    (λ c κs. search needs)
+    (λ c κs. search needs)
+    (λ c κs. search needs)
+    (λ c κs. search needs)
+    (λ c κs. search needs)
+    (λ c κs. search needs)
+    (λ c κs. search needs)
+    (λ c κs. search needs)
+    (λ c κs. search needs)
+    (λ c κs. search needs)
+    (λ c κs. search needs)
+    (λ c κs. search needs)
+    (λ c κs. search needs)
+    (λ c κs. search needs)
+    (λ c κs. search needs)
+    (λ c κs. search needs)
+    (λ c. search needs)
+    (λ c. search needs)
+    (λ c κs. search needs)
+    (λ c κs. search needs)
+    (λ c κs. search needs)
+    (λ c. search needs)
+    (λ c. search needs)
+    (λ c. search needs)
+    (λ c κs. search needs)
+    (λ c κs. search needs)
+    (λ c κs. search needs)
     returns
     returns-2
     returns-3

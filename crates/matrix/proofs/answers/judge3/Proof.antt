@@ -1,18 +1,9 @@
--- The finite test picks the case. Assumes nothing.
+-- The finite test picks the case.
 use mathlib.Core.Path.{sym, _∙_}
 use borrow.Author.Needs.{needs}
 use Rattle.matrix.specs.Answer.{judgedAll}
 use Rattle.matrix.proofs.answers.judge3.Statement.{statement}
 use Rattle.matrix.proofs.answers.judge3.Tie as tie
-
-slice-aggregate-all-finite : tie.Need-slice-aggregate-all-finite
-slice-aggregate-all-finite c = search needs
-
-all-finite-requires : tie.Need-all-finite-requires
-all-finite-requires c κs = search needs
-
-refuse3-requires : tie.Need-refuse3-requires
-refuse3-requires c κs = search needs
 
 returns : tie.Need-returns
 unfolding judgedAll
@@ -25,4 +16,4 @@ returns-2 c = rw (sym (c .before .before .all-finite .ensures) ∙ c .before .if
 pub judge3-spec : {M : Type 1} → statement M
 judge3-spec =
     tie.close
-    (tie.spec slice-aggregate-all-finite all-finite-requires refuse3-requires returns returns-2)
+    (tie.spec (λ c. search needs) (λ c κs. search needs) (λ c κs. search needs) returns returns-2)

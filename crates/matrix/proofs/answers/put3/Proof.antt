@@ -1,4 +1,4 @@
--- Stores from the first place on leave the numbers, and then what lay past them. Assumes nothing.
+-- Stores from the first place on leave the numbers, and then what lay past them.
 use mathlib.Core.Path.{_≡_, refl}
 use native.Mathlib.Omega.{arith}
 use borrow.Author.Needs.{needs}
@@ -13,26 +13,8 @@ returns : tie.Need-returns
 unfolding putOf
 returns c = rw (lt-leb 3 _ (c .if1 .taken)) (refl, refl)
 
-array-read-y : tie.Need-array-read-y
-array-read-y c = search needs
-
-slice-write-y : tie.Need-slice-write-y
-slice-write-y c = search needs
-
-array-read-y-2 : tie.Need-array-read-y-2
-array-read-y-2 c = search needs
-
 slice-write-y-2 : tie.Need-slice-write-y-2
 slice-write-y-2 c = simp length-set (omega arith)
-
-array-read-y-3 : tie.Need-array-read-y-3
-array-read-y-3 c = search needs
-
-slice-write-y-3 : tie.Need-slice-write-y-3
-slice-write-y-3 c = search needs
-
-same-length : tie.Need-same-length
-same-length c = search needs
 
 returns-2 : tie.Need-returns-2
 unfolding putOf
@@ -50,12 +32,12 @@ put3-spec =
     tie.close
     (tie.spec
     returns
-    array-read-y
-    slice-write-y
-    array-read-y-2
+    (λ c. search needs)
+    (λ c. search needs)
+    (λ c. search needs)
     slice-write-y-2
-    array-read-y-3
-    slice-write-y-3
-    same-length
+    (λ c. search needs)
+    (λ c. search needs)
+    (λ c. search needs)
     returns-2
     returns-3)

@@ -1,25 +1,13 @@
--- Each return has passed the tests before it, in the order of the definition. Assumes nothing.
+-- Each return has passed the tests before it, in the order of the definition.
 use borrow.Author.Needs.{needs}
 use Rattle.matrix.specs.Symmetric.{quadJudgedOf}
 use Rattle.float.proofs.Branches.{passes, fails}
 use Rattle.matrix.proofs.core.quad_judged.Statement.{statement}
 use Rattle.matrix.proofs.core.quad_judged.Tie as tie
 
-slice-aggregate-all-finite : tie.Need-slice-aggregate-all-finite
-slice-aggregate-all-finite c = search needs
-
-all-finite-requires : tie.Need-all-finite-requires
-all-finite-requires c κs = search needs
-
 returns : tie.Need-returns
 unfolding quadJudgedOf
 returns c = rw (fails (c .before .all-finite .ensures) (c .if1 .taken))
-
-slice-aggregate-all-finite-2 : tie.Need-slice-aggregate-all-finite-2
-slice-aggregate-all-finite-2 c = search needs
-
-all-finite-requires-2 : tie.Need-all-finite-requires-2
-all-finite-requires-2 c κs = search needs
 
 returns-2 : tie.Need-returns-2
 unfolding quadJudgedOf
@@ -27,24 +15,12 @@ returns-2 c =
     let past1 = c .before .before .before in
     rw (passes (past1 .before .all-finite .ensures) (past1 .if1 .left), fails (c .before .all-finite2 .ensures) (c .if2 .taken))
 
-slice-aggregate-all-finite-3 : tie.Need-slice-aggregate-all-finite-3
-slice-aggregate-all-finite-3 c = search needs
-
-all-finite-requires-3 : tie.Need-all-finite-requires-3
-all-finite-requires-3 c κs = search needs
-
 returns-3 : tie.Need-returns-3
 unfolding quadJudgedOf
 returns-3 c =
     let past2 = c .before .before .before in
     let past1 = past2 .before .before .before in
     rw (passes (past1 .before .all-finite .ensures) (past1 .if1 .left), passes (past2 .before .all-finite2 .ensures) (past2 .if2 .left), fails (c .before .all-finite3 .ensures) (c .if3 .taken))
-
-quad-requires : tie.Need-quad-requires
-quad-requires c κs = search needs
-
-judge-requires : tie.Need-judge-requires
-judge-requires c κs = search needs
 
 returns-4 : tie.Need-returns-4
 unfolding quadJudgedOf
@@ -59,15 +35,15 @@ pub quad-judged-spec : {M : Type 1} → statement M
 quad-judged-spec =
     tie.close
     (tie.spec
-    slice-aggregate-all-finite
-    all-finite-requires
+    (λ c. search needs)
+    (λ c κs. search needs)
     returns
-    slice-aggregate-all-finite-2
-    all-finite-requires-2
+    (λ c. search needs)
+    (λ c κs. search needs)
     returns-2
-    slice-aggregate-all-finite-3
-    all-finite-requires-3
+    (λ c. search needs)
+    (λ c κs. search needs)
     returns-3
-    quad-requires
-    judge-requires
+    (λ c κs. search needs)
+    (λ c κs. search needs)
     returns-4)

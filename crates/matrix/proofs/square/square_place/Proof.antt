@@ -1,4 +1,4 @@
--- Past both tests the place is below 9, so nothing overflows on the way. Assumes nothing.
+-- Past both tests the place is below 9, so nothing overflows on the way.
 use native.Mathlib.Nat.{mul-le-mul}
 use native.Mathlib.Omega.{arith}
 use Rattle.matrix.proofs.Placing.{square-below}

@@ -1,4 +1,4 @@
--- Past both tests the place is below 6, so nothing overflows on the way; the last test tells the row from the column. Assumes nothing.
+-- Past both tests the place is below 6, so nothing overflows on the way; the last test tells the row from the column.
 use native.Mathlib.Omega.{arith}
 use borrow.Author.Needs.{needs}
 use borrow.Author.Tests.{lt-ltb, le-ltb}
@@ -17,17 +17,11 @@ returns-2 c =
     let a = c .before .before .args in
     column-outside (a .n) (a .r) (a .c) _ _ (c .before .if1 .left) (c .if2 .taken)
 
-add-t6 : tie.Need-add-t6
-add-t6 c = search needs
-
 mul-t7 : tie.Need-mul-t7
 mul-t7 c = omega (arith, small (c .before .before .before .pre) (c .before .if2 .left))
 
 add-t9 : tie.Need-add-t9
 add-t9 c = omega (arith, small (c .before .before .before .pre) (c .before .if2 .left))
-
-add-t10 : tie.Need-add-t10
-add-t10 c = search needs
 
 mul-t11 : tie.Need-mul-t11
 mul-t11 c = omega (arith, small (c .before .before .before .pre) (c .before .before .if1 .left))
@@ -48,4 +42,4 @@ returns-4 c =
 pub packed-place-spec : {M : Type 1} → statement M
 packed-place-spec =
     tie.close
-    (tie.spec returns returns-2 add-t6 mul-t7 add-t9 add-t10 mul-t11 add-t13 returns-3 returns-4)
+    (tie.spec returns returns-2 (λ c. search needs) mul-t7 add-t9 (λ c. search needs) mul-t11 add-t13 returns-3 returns-4)

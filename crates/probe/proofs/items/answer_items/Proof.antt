@@ -1,4 +1,4 @@
--- `probe::items::answer_items` is safe: from both places on there is room for all the items that are left, so for one. Assumes nothing.
+-- `probe::items::answer_items` is safe: from both places on there is room for all the items that are left, so for one.
 use borrow.Author.Needs.{needs}
 use native.Mathlib.Omega.{arith}
 use mathlib.Core.Path.{_≡_}
@@ -14,41 +14,17 @@ Inv-loop s out₀ count op n m at₀ to₀ left₀ out at to left = (at + left *
 abbrev μ-loop : tie.MeasureT-loop
 μ-loop s out₀ count op n m at₀ to₀ left₀ out at to left = left
 
-loop-holds : tie.Need-loop-holds Inv-loop μ-loop
-loop-holds c = search needs
-
 item-at-requires : tie.Need-item-at-requires Inv-loop μ-loop
 item-at-requires c κs =
     let k = c .before .before in
     let e = one-less (k .loop .left) (8 * k .before .before .before .args .job .n) (omega arith) in
     search needs
 
-answer-requires : tie.Need-answer-requires Inv-loop μ-loop
-answer-requires c κs = search needs
-
 put-item-requires : tie.Need-put-item-requires Inv-loop μ-loop
 put-item-requires c κs =
     let k = c .before .before .before .before in
     let e = one-less (k .loop .left) (8 * k .before .before .before .args .job .m) (omega arith) in
     search needs
-
-mul-at : tie.Need-mul-at Inv-loop μ-loop
-mul-at c = search needs
-
-add-at : tie.Need-add-at Inv-loop μ-loop
-add-at c = search needs
-
-mul-to : tie.Need-mul-to Inv-loop μ-loop
-mul-to c = search needs
-
-add-to : tie.Need-add-to Inv-loop μ-loop
-add-to c = search needs
-
-sub-left : tie.Need-sub-left Inv-loop μ-loop
-sub-left c = search needs
-
-loop-less : tie.Need-loop-less Inv-loop μ-loop
-loop-less c = search needs
 
 loop-again : tie.Need-loop-again Inv-loop μ-loop
 loop-again c =
@@ -57,28 +33,22 @@ loop-again c =
     let f = one-less (k .loop .left) (8 * k .before .before .before .args .job .m) (omega arith) in
     search needs
 
-same-length : tie.Need-same-length Inv-loop μ-loop
-same-length c = search needs
-
-returns : tie.Need-returns Inv-loop μ-loop
-returns c = search needs
-
 pub answer-items-spec : {M : Type 1} → statement M
 answer-items-spec =
     tie.close
     (tie.spec
     Inv-loop
     μ-loop
-    loop-holds
+    (λ c. search needs)
     item-at-requires
-    answer-requires
+    (λ c κs. search needs)
     put-item-requires
-    mul-at
-    add-at
-    mul-to
-    add-to
-    sub-left
-    loop-less
+    (λ c. search needs)
+    (λ c. search needs)
+    (λ c. search needs)
+    (λ c. search needs)
+    (λ c. search needs)
+    (λ c. search needs)
     loop-again
-    same-length
-    returns)
+    (λ c. search needs)
+    (λ c. search needs))

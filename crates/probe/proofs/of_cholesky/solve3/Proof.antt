@@ -1,60 +1,30 @@
--- `probe::of_cholesky::solve3` is safe: at most eight places are lent. Assumes nothing.
+-- `probe::of_cholesky::solve3` is safe: at most eight places are lent.
 use borrow.Author.Needs.{needs}
 use native.Mathlib.Omega.{arith}
 use lib.ListN.{length-take}
 use Rattle.probe.proofs.of_cholesky.solve3.Statement.{statement}
 use Rattle.probe.proofs.of_cholesky.solve3.Tie as tie
 
-sym3-requires : tie.Need-sym3-requires
-sym3-requires c κs = search needs
-
-length-requires : tie.Need-length-requires
-length-requires c κs = search needs
-
-length-requires-2 : tie.Need-length-requires-2
-length-requires-2 c κs = search needs
-
-eight-requires : tie.Need-eight-requires
-eight-requires c κs = search needs
-
-eight-requires-2 : tie.Need-eight-requires-2
-eight-requires-2 c κs = search needs
-
-array-borrow-prefix-x : tie.Need-array-borrow-prefix-x
-array-borrow-prefix-x c = search needs
-
 slice-aggregate-cholesky-3x3-explicit-solve : tie.Need-slice-aggregate-cholesky-3x3-explicit-solve
 slice-aggregate-cholesky-3x3-explicit-solve c = simp length-take (omega arith)
-
-array-share-prefix-b : tie.Need-array-share-prefix-b
-array-share-prefix-b c = search needs
 
 slice-aggregate-cholesky-3x3-explicit-solve-2 :
     tie.Need-slice-aggregate-cholesky-3x3-explicit-solve-2
 slice-aggregate-cholesky-3x3-explicit-solve-2 c = simp length-take (omega arith)
 
-cholesky-3x3-explicit-solve-requires : tie.Need-cholesky-3x3-explicit-solve-requires
-cholesky-3x3-explicit-solve-requires c κs = search needs
-
-lent-requires : tie.Need-lent-requires
-lent-requires c κs = search needs
-
-returns : tie.Need-returns
-returns c = search needs
-
 pub solve3-spec : {M : Type 1} → statement M
 solve3-spec =
     tie.close
     (tie.spec
-    sym3-requires
-    length-requires
-    length-requires-2
-    eight-requires
-    eight-requires-2
-    array-borrow-prefix-x
+    (λ c κs. search needs)
+    (λ c κs. search needs)
+    (λ c κs. search needs)
+    (λ c κs. search needs)
+    (λ c κs. search needs)
+    (λ c. search needs)
     slice-aggregate-cholesky-3x3-explicit-solve
-    array-share-prefix-b
+    (λ c. search needs)
     slice-aggregate-cholesky-3x3-explicit-solve-2
-    cholesky-3x3-explicit-solve-requires
-    lent-requires
-    returns)
+    (λ c κs. search needs)
+    (λ c κs. search needs)
+    (λ c. search needs))

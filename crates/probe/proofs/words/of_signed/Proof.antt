@@ -1,4 +1,4 @@
--- `probe::words::of_signed` is safe: below 0 it works on -1 - x, which is a natural number. Assumes nothing.
+-- `probe::words::of_signed` is safe: below 0 it works on -1 - x, which is a natural number.
 use borrow.Author.Needs.{needs}
 use mathlib.Core.Path.{subst⁻¹}
 use Prim.Native.Nat.{_≤_}
@@ -34,14 +34,8 @@ sub-result-2 c =
     subst⁻¹ (λ (y : ℤ). natAbs y ≤ 18446744073709551615) (flipped-back (z (c .before)) (small (c .before)) (c .if1 .taken))
     (let l = small (c .before) .sfits in omega arith)
 
-returns : tie.Need-returns
-returns c = search needs
-
 cast-result-2 : tie.Need-cast-result-2
 cast-result-2 c = kept (z (c .before)) (small (c .before)) (c .if1 .left)
 
-returns-2 : tie.Need-returns-2
-returns-2 c = search needs
-
 pub of-signed-spec : {M : Type 1} → statement M
-of-signed-spec = tie.close (tie.spec sub-result cast-result sub-result-2 returns cast-result-2 returns-2)
+of-signed-spec = tie.close (tie.spec sub-result cast-result sub-result-2 (λ c. search needs) cast-result-2 (λ c. search needs))

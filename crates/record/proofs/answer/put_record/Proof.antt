@@ -1,4 +1,4 @@
--- The head and the three groups of numbers are written one after the other, and fill the slice. Assumes nothing.
+-- The head and the three groups of numbers are written one after the other, and fill the slice.
 use borrow.Author.Needs.{needs}
 use mathlib.Core.Path.{_≡_}
 use native.Mathlib.Omega.{arith}
@@ -9,21 +9,6 @@ use Rattle.record.specs.Answer.{ofWorked}
 use Rattle.record.proofs.Records.{record-of-parts}
 use Rattle.record.proofs.answer.put_record.Statement.{statement}
 use Rattle.record.proofs.answer.put_record.Tie as tie
-
-array-read-t14 : tie.Need-array-read-t14
-array-read-t14 c = search needs
-
-array-read-t17 : tie.Need-array-read-t17
-array-read-t17 c = search needs
-
-array-read-t20 : tie.Need-array-read-t20
-array-read-t20 c = search needs
-
-array-read-t23 : tie.Need-array-read-t23
-array-read-t23 c = search needs
-
-put-head-requires : tie.Need-put-head-requires
-put-head-requires c κs = search needs
 
 slice-aggregate-put-numbers : tie.Need-slice-aggregate-put-numbers
 slice-aggregate-put-numbers c = search needs
@@ -67,11 +52,11 @@ pub put-record-spec : {M : Type 1} → statement M
 put-record-spec =
     tie.close
     (tie.spec
-    array-read-t14
-    array-read-t17
-    array-read-t20
-    array-read-t23
-    put-head-requires
+    (λ c. search needs)
+    (λ c. search needs)
+    (λ c. search needs)
+    (λ c. search needs)
+    (λ c κs. search needs)
     slice-aggregate-put-numbers
     put-numbers-requires
     slice-aggregate-put-numbers-2

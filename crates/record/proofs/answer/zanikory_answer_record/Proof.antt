@@ -1,4 +1,4 @@
--- The two sizes are asked in turn, and each outcome is one record, or none where the answer has no room. Assumes nothing.
+-- The two sizes are asked in turn, and each outcome is one record, or none where the answer has no room.
 use borrow.Author.Needs.{needs}
 use borrow.Author.Tests.{eq-eqb, ne-eqb}
 use mathlib.Core.Path.{refl, ap, _∙_}
@@ -19,15 +19,6 @@ returns : tie.Need-returns
 unfolding stepOf
 returns c = rw (ne-eqb _ (answerSize F) (c .if1 .taken)) (refl, refl)
 
-refused-requires : tie.Need-refused-requires
-refused-requires c κs = search needs
-
-put-record-requires : tie.Need-put-record-requires
-put-record-requires c κs = search needs
-
-same-length : tie.Need-same-length
-same-length c = search needs
-
 returns-2 : tie.Need-returns-2
 unfolding stepOf
 returns-2 c =
@@ -35,30 +26,6 @@ returns-2 c =
     let sizes = w .before .before in
     rw (eq-eqb _ (answerSize F) (sizes .before .if1 .left), ne-eqb _ (requestSize F) (sizes .if2 .taken))
     (refl, c .before .before .put-record .ensures ∙ ap (λ (r : Worked). recordOf F (replicate 4 0) 0 (ofWorked r)) (w .refused .ensures))
-
-judged-requires : tie.Need-judged-requires
-judged-requires c κs = search needs
-
-shared-slice-read-put-record : tie.Need-shared-slice-read-put-record
-shared-slice-read-put-record c = search needs
-
-shared-slice-read-t15 : tie.Need-shared-slice-read-t15
-shared-slice-read-t15 c = search needs
-
-shared-slice-read-t17 : tie.Need-shared-slice-read-t17
-shared-slice-read-t17 c = search needs
-
-shared-slice-read-t19 : tie.Need-shared-slice-read-t19
-shared-slice-read-t19 c = search needs
-
-shared-slice-read-put-record-2 : tie.Need-shared-slice-read-put-record-2
-shared-slice-read-put-record-2 c = search needs
-
-put-record-requires-2 : tie.Need-put-record-requires-2
-put-record-requires-2 c κs = search needs
-
-same-length-2 : tie.Need-same-length-2
-same-length-2 c = search needs
 
 returns-3 : tie.Need-returns-3
 unfolding stepOf
@@ -78,16 +45,16 @@ zanikory-answer-record-spec =
     tie.close
     (tie.spec
     returns
-    refused-requires
-    put-record-requires
-    same-length
+    (λ c κs. search needs)
+    (λ c κs. search needs)
+    (λ c. search needs)
     returns-2
-    judged-requires
-    shared-slice-read-put-record
-    shared-slice-read-t15
-    shared-slice-read-t17
-    shared-slice-read-t19
-    shared-slice-read-put-record-2
-    put-record-requires-2
-    same-length-2
+    (λ c κs. search needs)
+    (λ c. search needs)
+    (λ c. search needs)
+    (λ c. search needs)
+    (λ c. search needs)
+    (λ c. search needs)
+    (λ c κs. search needs)
+    (λ c. search needs)
     returns-3)

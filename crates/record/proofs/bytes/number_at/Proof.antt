@@ -1,4 +1,4 @@
--- The number of the word there. Assumes nothing.
+-- The number of the word there.
 use borrow.Author.Needs.{needs}
 use mathlib.Core.Path.{ap, _∙_}
 use lib.Ieee.{ofBits}
@@ -6,14 +6,8 @@ use Rattle.float.specs.Width.{F}
 use Rattle.record.proofs.bytes.number_at.Statement.{statement}
 use Rattle.record.proofs.bytes.number_at.Tie as tie
 
-word-at-requires : tie.Need-word-at-requires
-word-at-requires c κs = search needs
-
-of-bits-requires : tie.Need-of-bits-requires
-of-bits-requires c κs = search needs
-
 returns : tie.Need-returns
 returns c = c .of-bits .ensures ∙ ap (ofBits F) (c .before .word-at .ensures)
 
 pub number-at-spec : {M : Type 1} → statement M
-number-at-spec = tie.close (tie.spec word-at-requires of-bits-requires returns)
+number-at-spec = tie.close (tie.spec (λ c κs. search needs) (λ c κs. search needs) returns)

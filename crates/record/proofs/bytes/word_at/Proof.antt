@@ -1,4 +1,4 @@
--- The bytes are taken from the last to the first: the word so far is that of the bytes passed, and each adds one in front. Assumes nothing.
+-- The bytes are taken from the last to the first: the word so far is that of the bytes passed, and each adds one in front.
 use borrow.Author.Needs.{needs}
 use mathlib.Core.Path.{_≡_, refl, _∙_, ap}
 use Prim.Native.Nat.{ℕ, _+_, _-_, _^_, _≤_, _<_}
@@ -21,26 +21,11 @@ loop-holds : tie.Need-loop-holds Inv-loop μ-loop
 unfolding wordOf
 loop-holds c = (omega arith, refl, omega arith)
 
-sub-i : tie.Need-sub-i Inv-loop μ-loop
-sub-i c = search needs
-
 mul-w : tie.Need-mul-w Inv-loop μ-loop
 mul-w c = let l = c .before .loop in omega (arith, word-fits _ _ (omega arith) (word-grows (numberBytes F - l .i) (numberBytes F + 1 - l .i) (l .w) 0 (omega arith) (l .inv .2) (omega arith)))
 
-add-wide : tie.Need-add-wide Inv-loop μ-loop
-add-wide c = search needs
-
-shared-slice-read-wide : tie.Need-shared-slice-read-wide Inv-loop μ-loop
-shared-slice-read-wide c = search needs
-
-wide-requires : tie.Need-wide-requires Inv-loop μ-loop
-wide-requires c κs = search needs
-
 add-w : tie.Need-add-w Inv-loop μ-loop
 add-w c = let l = c .before .before .before .loop in omega (arith, word-fits _ _ (omega arith) (word-grows (numberBytes F - l .i) (numberBytes F + 1 - l .i) (l .w) (c .wide .result) (omega arith) (l .inv .2) (c .wide .ensures .1)))
-
-loop-less : tie.Need-loop-less Inv-loop μ-loop
-loop-less c = search needs
 
 loop-again : tie.Need-loop-again Inv-loop μ-loop
 loop-again c =
@@ -65,12 +50,12 @@ word-at-spec =
     Inv-loop
     μ-loop
     loop-holds
-    sub-i
+    (λ c. search needs)
     mul-w
-    add-wide
-    shared-slice-read-wide
-    wide-requires
+    (λ c. search needs)
+    (λ c. search needs)
+    (λ c κs. search needs)
     add-w
-    loop-less
+    (λ c. search needs)
     loop-again
     returns)

@@ -1,4 +1,4 @@
--- The invariant: all bytes are zero exactly where those taken in have no bit and those from i on are zero. Assumes nothing.
+-- The invariant: all bytes are zero exactly where those taken in have no bit and those from i on are zero.
 use borrow.Author.Needs.{needs}
 use mathlib.Core.Path.{_≡_, refl, sym, ap, _∙_}
 use mathlib.Core.Bool.{Bool, _&&_, and-true}
@@ -19,15 +19,6 @@ abbrev μ-loop : tie.MeasureT-loop
 loop-holds : tie.Need-loop-holds Inv-loop μ-loop
 loop-holds c = (omega arith, refl)
 
-shared-slice-read-any : tie.Need-shared-slice-read-any Inv-loop μ-loop
-shared-slice-read-any c = search needs
-
-add-i : tie.Need-add-i Inv-loop μ-loop
-add-i c = search needs
-
-loop-less : tie.Need-loop-less Inv-loop μ-loop
-loop-less c = search needs
-
 loop-again : tie.Need-loop-again Inv-loop μ-loop
 loop-again c =
     let l = c .before .before .loop in
@@ -42,4 +33,4 @@ returns c =
     sym (l .inv .1 ∙ ap (λ (k : ℕ). eqb (l .any) 0 && zeroFrom k (a .e) (a .s .now)) e ∙ ap (λ (t : Bool). eqb (l .any) 0 && t) (none-left (a .s .now) (a .e)) ∙ and-true (eqb (l .any) 0))
 
 pub zeros-in-spec : {M : Type 1} → statement M
-zeros-in-spec = tie.close (tie.spec Inv-loop μ-loop loop-holds shared-slice-read-any add-i loop-less loop-again returns)
+zeros-in-spec = tie.close (tie.spec Inv-loop μ-loop loop-holds (λ c. search needs) (λ c. search needs) (λ c. search needs) loop-again returns)

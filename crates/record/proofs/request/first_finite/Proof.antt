@@ -1,4 +1,4 @@
--- The test of the part is the test of the first n. Assumes nothing.
+-- The test of the part is the test of the first n.
 use borrow.Author.Needs.{needs}
 use mathlib.Core.Path.{sym}
 use lib.Seq.{length-take-le}
@@ -8,11 +8,5 @@ use Rattle.record.proofs.request.first_finite.Tie as tie
 slice-aggregate-all-finite : tie.Need-slice-aggregate-all-finite
 slice-aggregate-all-finite c = let a = c .before .before .args in sym (length-take-le (a .n) (a .xs .now) (c .before .before .pre))
 
-all-finite-requires : tie.Need-all-finite-requires
-all-finite-requires c κs = search needs
-
-returns : tie.Need-returns
-returns c = search needs
-
 pub first-finite-spec : {M : Type 1} → statement M
-first-finite-spec = tie.close (tie.spec slice-aggregate-all-finite all-finite-requires returns)
+first-finite-spec = tie.close (tie.spec slice-aggregate-all-finite (λ c κs. search needs) (λ c. search needs))

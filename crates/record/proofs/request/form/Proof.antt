@@ -1,4 +1,4 @@
--- The size is asked first. Assumes nothing.
+-- The size is asked first.
 use borrow.Author.Needs.{needs}
 use borrow.Author.Tests.{eq-eqb, ne-eqb}
 use Rattle.float.specs.Width.{F}
@@ -11,12 +11,9 @@ returns : tie.Need-returns
 unfolding sizedFormOf
 returns c = rw (ne-eqb _ (requestSize F) (c .if1 .taken))
 
-form-of-requires : tie.Need-form-of-requires
-form-of-requires c κs = search needs
-
 returns-2 : tie.Need-returns-2
 unfolding sizedFormOf
 returns-2 c = rw (eq-eqb _ (requestSize F) (c .before .if1 .left)) (c .form-of .ensures)
 
 pub form-spec : {M : Type 1} → statement M
-form-spec = tie.close (tie.spec returns form-of-requires returns-2)
+form-spec = tie.close (tie.spec returns (λ c κs. search needs) returns-2)

@@ -1,18 +1,9 @@
--- The kind is asked first, and then the zeros. Assumes nothing.
+-- The kind is asked first, and then the zeros.
 use borrow.Author.Needs.{needs}
 use mathlib.Core.Path.{sym, _∙_}
 use Rattle.record.specs.Request.{formOf}
 use Rattle.record.proofs.request.form_of.Statement.{statement}
 use Rattle.record.proofs.request.form_of.Tie as tie
-
-shared-slice-read-kind : tie.Need-shared-slice-read-kind
-shared-slice-read-kind c = search needs
-
-is-known-requires : tie.Need-is-known-requires
-is-known-requires c κs = search needs
-
-unused-zero-requires : tie.Need-unused-zero-requires
-unused-zero-requires c κs = search needs
 
 returns : tie.Need-returns
 unfolding formOf
@@ -34,9 +25,9 @@ pub form-of-spec : {M : Type 1} → statement M
 form-of-spec =
     tie.close
     (tie.spec
-    shared-slice-read-kind
-    is-known-requires
-    unused-zero-requires
+    (λ c. search needs)
+    (λ c κs. search needs)
+    (λ c κs. search needs)
     returns
     returns-2
     returns-3)

@@ -1,4 +1,4 @@
--- A form that is not 0 is the answer; after it the finite test decides, over the first of all the numbers. Assumes nothing.
+-- A form that is not 0 is the answer; after it the finite test decides, over the first of all the numbers.
 use borrow.Author.Needs.{needs}
 use borrow.Author.Tests.{eq-eqb, ne-eqb}
 use mathlib.Core.Path.{_≡_, sym, _∙_}
@@ -9,30 +9,9 @@ use Rattle.record.proofs.Used.{used-first}
 use Rattle.record.proofs.request.judged.Statement.{statement}
 use Rattle.record.proofs.request.judged.Tie as tie
 
-form-of-requires : tie.Need-form-of-requires
-form-of-requires c κs = search needs
-
-refused-requires : tie.Need-refused-requires
-refused-requires c κs = search needs
-
 returns : tie.Need-returns
 unfolding judgedOf
 returns c = rw (← c .before .before .form-of .ensures, ne-eqb _ 0 (c .before .if1 .taken)) (c .refused .ensures)
-
-shared-slice-read-kind : tie.Need-shared-slice-read-kind
-shared-slice-read-kind c = search needs
-
-numbers9-requires : tie.Need-numbers9-requires
-numbers9-requires c κs = search needs
-
-numbers3-requires : tie.Need-numbers3-requires
-numbers3-requires c κs = search needs
-
-used-finite-requires : tie.Need-used-finite-requires
-used-finite-requires c κs = search needs
-
-work-requires : tie.Need-work-requires
-work-requires c κs = search needs
 
 returns-2 : tie.Need-returns-2
 unfolding judgedOf
@@ -41,9 +20,6 @@ returns-2 c =
     let s = numbers .before .before .before .before .before .before .args .s .now in
     let used : usedFinite F (kindOf s) s ≡ true = sym (used-first F (kindOf s) s) ∙ (cc (c .before .before .used-finite .ensures, c .before .if2 .taken, numbers .numbers3 .ensures, numbers .before .numbers9 .ensures)) in
     rw (← numbers .before .before .before .before .form-of .ensures, eq-eqb _ 0 (numbers .before .before .before .if1 .left), used) (rw (← numbers .before .numbers9 .ensures, ← numbers .numbers3 .ensures) (c .work .ensures))
-
-refused-requires-2 : tie.Need-refused-requires-2
-refused-requires-2 c κs = search needs
 
 returns-3 : tie.Need-returns-3
 unfolding judgedOf
@@ -57,14 +33,14 @@ pub judged-spec : {M : Type 1} → statement M
 judged-spec =
     tie.close
     (tie.spec
-    form-of-requires
-    refused-requires
+    (λ c κs. search needs)
+    (λ c κs. search needs)
     returns
-    shared-slice-read-kind
-    numbers9-requires
-    numbers3-requires
-    used-finite-requires
-    work-requires
+    (λ c. search needs)
+    (λ c κs. search needs)
+    (λ c κs. search needs)
+    (λ c κs. search needs)
+    (λ c κs. search needs)
     returns-2
-    refused-requires-2
+    (λ c κs. search needs)
     returns-3)

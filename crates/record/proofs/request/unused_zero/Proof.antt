@@ -1,4 +1,4 @@
--- The three tests in turn; a kind uses at most nine numbers and three, so that each lies in the request. Assumes nothing.
+-- The three tests in turn; a kind uses at most nine numbers and three, so that each lies in the request.
 use borrow.Author.Needs.{needs}
 use mathlib.Core.Path.{_≡_, sym, ap, _∙_}
 use mathlib.Core.Bool.{true, false}
@@ -11,15 +11,6 @@ use Rattle.record.specs.Bytes.{zeroFrom}
 use Rattle.kinds.proofs.Most.{nine-most, three-most}
 use Rattle.record.proofs.request.unused_zero.Statement.{statement}
 use Rattle.record.proofs.request.unused_zero.Tie as tie
-
-nine-used-requires : tie.Need-nine-used-requires
-nine-used-requires c κs = search needs
-
-three-used-requires : tie.Need-three-used-requires
-three-used-requires c κs = search needs
-
-zeros-in-requires : tie.Need-zeros-in-requires
-zeros-in-requires c κs = search needs
 
 nine-fit : (c : tie.After-nine-used) → c .nine-used .result ≤ 9
 nine-fit c = rw (c .nine-used .ensures) (nine-most (c .before .before .args .kind))
@@ -70,9 +61,9 @@ pub unused-zero-spec : {M : Type 1} → statement M
 unused-zero-spec =
     tie.close
     (tie.spec
-    nine-used-requires
-    three-used-requires
-    zeros-in-requires
+    (λ c κs. search needs)
+    (λ c κs. search needs)
+    (λ c κs. search needs)
     mul-zeros-in
     add-zeros-in
     zeros-in-requires-2

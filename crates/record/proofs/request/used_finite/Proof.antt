@@ -1,4 +1,4 @@
--- The two tests in turn; a kind uses at most nine numbers and three. Assumes nothing.
+-- The two tests in turn; a kind uses at most nine numbers and three.
 use borrow.Author.Needs.{needs}
 use mathlib.Core.Path.{_≡_, sym, ap, _∙_}
 use mathlib.Core.Bool.{true, false}
@@ -14,17 +14,11 @@ use Rattle.record.proofs.request.used_finite.Tie as tie
 slice-aggregate-first-finite : tie.Need-slice-aggregate-first-finite
 slice-aggregate-first-finite c = search needs
 
-nine-used-requires : tie.Need-nine-used-requires
-nine-used-requires c κs = search needs
-
 first-finite-requires : tie.Need-first-finite-requires
 first-finite-requires c κs = let h = nine-most (c .before .before .args .kind) in omega (arith, slice-aggregate-first-finite (c .before), c .nine-used .ensures)
 
 slice-aggregate-first-finite-2 : tie.Need-slice-aggregate-first-finite-2
 slice-aggregate-first-finite-2 c = search needs
-
-three-used-requires : tie.Need-three-used-requires
-three-used-requires c κs = search needs
 
 first-finite-requires-2 : tie.Need-first-finite-requires-2
 first-finite-requires-2 c κs = let h = three-most (c .before .before .before .before .before .before .args .kind) in omega (arith, slice-aggregate-first-finite-2 (c .before), c .three-used .ensures)
@@ -50,10 +44,10 @@ used-finite-spec =
     tie.close
     (tie.spec
     slice-aggregate-first-finite
-    nine-used-requires
+    (λ c κs. search needs)
     first-finite-requires
     slice-aggregate-first-finite-2
-    three-used-requires
+    (λ c κs. search needs)
     first-finite-requires-2
     returns
     returns-2)

@@ -1,4 +1,4 @@
--- Each turn answers one request more, and what lies behind the answers stays. Assumes nothing.
+-- Each turn answers one request more, and what lies behind the answers stays.
 use borrow.Author.Needs.{needs}
 use mathlib.Core.Path.{_≡_, refl, sym, _∙_}
 use Prim.Native.Nat.{_-_, _*_, _≤_}
@@ -17,21 +17,12 @@ Inv-loop requests answers₀ n i₀ answers i = (i ≤ n) × (length answers ≡
 abbrev μ-loop : tie.MeasureT-loop
 μ-loop requests answers₀ n i₀ answers i = n - i
 
-whole-records-requires : tie.Need-whole-records-requires Inv-loop μ-loop
-whole-records-requires c κs = search needs
-
 loop-holds : tie.Need-loop-holds Inv-loop μ-loop
 unfolding answersOf
 loop-holds c = (omega arith, refl, refl, refl)
 
 answer-one-requires : tie.Need-answer-one-requires Inv-loop μ-loop
 answer-one-requires c κs = (omega arith, omega arith)
-
-add-i : tie.Need-add-i Inv-loop μ-loop
-add-i c = search needs
-
-loop-less : tie.Need-loop-less Inv-loop μ-loop
-loop-less c = search needs
 
 loop-again : tie.Need-loop-again Inv-loop μ-loop
 loop-again c =
@@ -42,9 +33,6 @@ loop-again c =
       answer-more (c .before .before .answer-one .last .1 .0) (l .answers) (a .requests .now) (l .i) (c .before .before .answer-one .ensures .0) (l .inv .2),
       rest-more (c .before .before .answer-one .last .1 .0) (l .answers) (a .answers .now) (l .i) (c .before .before .answer-one .ensures .1) (l .inv .3),
     )
-
-same-length : tie.Need-same-length Inv-loop μ-loop
-same-length c = search needs
 
 returns : tie.Need-returns Inv-loop μ-loop
 unfolding streamOf
@@ -61,11 +49,11 @@ answer-all-spec =
     (tie.spec
     Inv-loop
     μ-loop
-    whole-records-requires
+    (λ c κs. search needs)
     loop-holds
     answer-one-requires
-    add-i
-    loop-less
+    (λ c. search needs)
+    (λ c. search needs)
     loop-again
-    same-length
+    (λ c. search needs)
     returns)

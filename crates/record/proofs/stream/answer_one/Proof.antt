@@ -1,4 +1,4 @@
--- The step is made on the request and on the place of its answer; what lies before and behind stays. Assumes nothing.
+-- The step is made on the request and on the place of its answer; what lies before and behind stays.
 use borrow.Author.Needs.{needs}
 use mathlib.Core.Path.{_≡_, ap, _∙_}
 use Prim.Native.Nat.{ℕ, _+_, _-_, _*_}
@@ -11,42 +11,6 @@ use Rattle.record.specs.Answer.{answeredOf}
 use Rattle.record.proofs.Streams.{stepped, before-part, behind-part}
 use Rattle.record.proofs.stream.answer_one.Statement.{statement}
 use Rattle.record.proofs.stream.answer_one.Tie as tie
-
-mul-a : tie.Need-mul-a
-mul-a c = search needs
-
-mul-b : tie.Need-mul-b
-mul-b c = search needs
-
-add-a-end : tie.Need-add-a-end
-add-a-end c = search needs
-
-add-b-end : tie.Need-add-b-end
-add-b-end c = search needs
-
-sub-zanikory-answer-record : tie.Need-sub-zanikory-answer-record
-sub-zanikory-answer-record c = search needs
-
-part-zanikory-answer-record-start : tie.Need-part-zanikory-answer-record-start
-part-zanikory-answer-record-start c = search needs
-
-part-zanikory-answer-record-end : tie.Need-part-zanikory-answer-record-end
-part-zanikory-answer-record-end c = search needs
-
-sub-zanikory-answer-record-2 : tie.Need-sub-zanikory-answer-record-2
-sub-zanikory-answer-record-2 c = search needs
-
-part-zanikory-answer-record-start-2 : tie.Need-part-zanikory-answer-record-start-2
-part-zanikory-answer-record-start-2 c = search needs
-
-part-zanikory-answer-record-end-2 : tie.Need-part-zanikory-answer-record-end-2
-part-zanikory-answer-record-end-2 c = search needs
-
-zanikory-answer-record-requires : tie.Need-zanikory-answer-record-requires
-zanikory-answer-record-requires c κs = search needs
-
-same-length : tie.Need-same-length
-same-length c = search needs
 
 returns : tie.Need-returns
 returns c =
@@ -67,16 +31,16 @@ pub answer-one-spec : {M : Type 1} → statement M
 answer-one-spec =
     tie.close
     (tie.spec
-    mul-a
-    mul-b
-    add-a-end
-    add-b-end
-    sub-zanikory-answer-record
-    part-zanikory-answer-record-start
-    part-zanikory-answer-record-end
-    sub-zanikory-answer-record-2
-    part-zanikory-answer-record-start-2
-    part-zanikory-answer-record-end-2
-    zanikory-answer-record-requires
-    same-length
+    (λ c. search needs)
+    (λ c. search needs)
+    (λ c. search needs)
+    (λ c. search needs)
+    (λ c. search needs)
+    (λ c. search needs)
+    (λ c. search needs)
+    (λ c. search needs)
+    (λ c. search needs)
+    (λ c. search needs)
+    (λ c κs. search needs)
+    (λ c. search needs)
     returns)

@@ -1,29 +1,8 @@
--- Each return is one outcome of the comparison, and the columns of U and V change places with the values. Assumes nothing.
+-- Each return is one outcome of the comparison, and the columns of U and V change places with the values.
 use borrow.Author.Needs.{needs}
 use Rattle.svd.specs.Order.{descended}
 use Rattle.svd.proofs.order.descend23.Statement.{statement}
 use Rattle.svd.proofs.order.descend23.Tie as tie
-
-array-read-if1 : tie.Need-array-read-if1
-array-read-if1 c = search needs
-
-array-read-if1-2 : tie.Need-array-read-if1-2
-array-read-if1-2 c = search needs
-
-array-read-t15 : tie.Need-array-read-t15
-array-read-t15 c = search needs
-
-array-read-t18 : tie.Need-array-read-t18
-array-read-t18 c = search needs
-
-array-read-t21 : tie.Need-array-read-t21
-array-read-t21 c = search needs
-
-swap23-requires : tie.Need-swap23-requires
-swap23-requires c κs = search needs
-
-swap23-requires-2 : tie.Need-swap23-requires-2
-swap23-requires-2 c κs = search needs
 
 returns : tie.Need-returns
 unfolding descended
@@ -37,12 +16,12 @@ pub descend23-spec : {M : Type 1} → statement M
 descend23-spec =
     tie.close
     (tie.spec
-    array-read-if1
-    array-read-if1-2
-    array-read-t15
-    array-read-t18
-    array-read-t21
-    swap23-requires
-    swap23-requires-2
+    (λ c. search needs)
+    (λ c. search needs)
+    (λ c. search needs)
+    (λ c. search needs)
+    (λ c. search needs)
+    (λ c κs. search needs)
+    (λ c κs. search needs)
     returns
     returns-2)

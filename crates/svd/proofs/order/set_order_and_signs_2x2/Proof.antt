@@ -1,23 +1,8 @@
--- Magnitudes, then the two signs, then the comparison, each as the definition names it. Assumes nothing.
+-- Magnitudes, then the two signs, then the comparison, each as the definition names it.
 use borrow.Author.Needs.{needs}
 use Rattle.svd.specs.Order.{order2Of}
 use Rattle.svd.proofs.order.set_order_and_signs_2x2.Statement.{statement}
 use Rattle.svd.proofs.order.set_order_and_signs_2x2.Tie as tie
-
-magnitude-requires : tie.Need-magnitude-requires
-magnitude-requires c κs = search needs
-
-magnitude-requires-2 : tie.Need-magnitude-requires-2
-magnitude-requires-2 c κs = search needs
-
-sign1-2x2-requires : tie.Need-sign1-2x2-requires
-sign1-2x2-requires c κs = search needs
-
-sign2-2x2-requires : tie.Need-sign2-2x2-requires
-sign2-2x2-requires c κs = search needs
-
-descend-2x2-requires : tie.Need-descend-2x2-requires
-descend-2x2-requires c κs = search needs
 
 returns : tie.Need-returns
 unfolding order2Of
@@ -34,9 +19,9 @@ pub set-order-and-signs-2x2-spec : {M : Type 1} → statement M
 set-order-and-signs-2x2-spec =
     tie.close
     (tie.spec
-    magnitude-requires
-    magnitude-requires-2
-    sign1-2x2-requires
-    sign2-2x2-requires
-    descend-2x2-requires
+    (λ c κs. search needs)
+    (λ c κs. search needs)
+    (λ c κs. search needs)
+    (λ c κs. search needs)
+    (λ c κs. search needs)
     returns)

@@ -1,16 +1,10 @@
--- Each return is one outcome of the test of the sign bit. Assumes nothing.
+-- Each return is one outcome of the test of the sign bit.
 use mathlib.Core.Path.{ap, _∙_}
 use borrow.Author.Needs.{needs}
 use Rattle.matrix.specs.Square.{mat3}
 use Rattle.svd.proofs.Chosen.{flipped, unflipped}
 use Rattle.svd.proofs.order.sign2.Statement.{statement}
 use Rattle.svd.proofs.order.sign2.Tie as tie
-
-sign-bit-requires : tie.Need-sign-bit-requires
-sign-bit-requires c κs = search needs
-
-flip2-requires : tie.Need-flip2-requires
-flip2-requires c κs = search needs
 
 returns : tie.Need-returns
 returns c =
@@ -23,4 +17,4 @@ returns-2 c =
     ap mat3 (unflipped 3 1 (a .x) (a .u .«data») (c .before .sign-bit .ensures) (c .if1 .left))
 
 pub sign2-spec : {M : Type 1} → statement M
-sign2-spec = tie.close (tie.spec sign-bit-requires flip2-requires returns returns-2)
+sign2-spec = tie.close (tie.spec (λ c κs. search needs) (λ c κs. search needs) returns returns-2)

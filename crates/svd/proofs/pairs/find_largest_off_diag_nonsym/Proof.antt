@@ -1,4 +1,4 @@
--- Each return is one outcome of two comparisons of sums of magnitudes. Assumes nothing.
+-- Each return is one outcome of two comparisons of sums of magnitudes.
 use mathlib.Core.Path.{ap₂}
 use borrow.Author.Needs.{needs}
 use lib.Ieee.{add}
@@ -6,42 +6,6 @@ use Rattle.float.specs.Width.{F}
 use Rattle.svd.proofs.Chosen.{Sums, rises-twice, rises-once, rises-late, never-rises}
 use Rattle.svd.proofs.pairs.find_largest_off_diag_nonsym.Statement.{statement}
 use Rattle.svd.proofs.pairs.find_largest_off_diag_nonsym.Tie as tie
-
-array-read-magnitude : tie.Need-array-read-magnitude
-array-read-magnitude c = search needs
-
-magnitude-requires : tie.Need-magnitude-requires
-magnitude-requires c κs = search needs
-
-array-read-magnitude-2 : tie.Need-array-read-magnitude-2
-array-read-magnitude-2 c = search needs
-
-magnitude-requires-2 : tie.Need-magnitude-requires-2
-magnitude-requires-2 c κs = search needs
-
-array-read-magnitude-3 : tie.Need-array-read-magnitude-3
-array-read-magnitude-3 c = search needs
-
-magnitude-requires-3 : tie.Need-magnitude-requires-3
-magnitude-requires-3 c κs = search needs
-
-array-read-magnitude-4 : tie.Need-array-read-magnitude-4
-array-read-magnitude-4 c = search needs
-
-magnitude-requires-4 : tie.Need-magnitude-requires-4
-magnitude-requires-4 c κs = search needs
-
-array-read-magnitude-5 : tie.Need-array-read-magnitude-5
-array-read-magnitude-5 c = search needs
-
-magnitude-requires-5 : tie.Need-magnitude-requires-5
-magnitude-requires-5 c κs = search needs
-
-array-read-magnitude-6 : tie.Need-array-read-magnitude-6
-array-read-magnitude-6 c = search needs
-
-magnitude-requires-6 : tie.Need-magnitude-requires-6
-magnitude-requires-6 c κs = search needs
 
 sums : (c : tie.After-magnitude6) →
     let two = c .before .before in
@@ -74,18 +38,18 @@ pub find-largest-off-diag-nonsym-spec : {M : Type 1} → statement M
 find-largest-off-diag-nonsym-spec =
     tie.close
     (tie.spec
-    array-read-magnitude
-    magnitude-requires
-    array-read-magnitude-2
-    magnitude-requires-2
-    array-read-magnitude-3
-    magnitude-requires-3
-    array-read-magnitude-4
-    magnitude-requires-4
-    array-read-magnitude-5
-    magnitude-requires-5
-    array-read-magnitude-6
-    magnitude-requires-6
+    (λ c. search needs)
+    (λ c κs. search needs)
+    (λ c. search needs)
+    (λ c κs. search needs)
+    (λ c. search needs)
+    (λ c κs. search needs)
+    (λ c. search needs)
+    (λ c κs. search needs)
+    (λ c. search needs)
+    (λ c κs. search needs)
+    (λ c. search needs)
+    (λ c κs. search needs)
     returns
     returns-2
     returns-3

@@ -1,4 +1,4 @@
--- Each return is one pair, and the call there answers for it. Assumes nothing.
+-- Each return is one pair, and the call there answers for it.
 use borrow.Author.Needs.{needs}
 use Rattle.svd.specs.Pairs.{sidesOf}
 use Rattle.svd.proofs.pairs.rotation_of.Statement.{statement}
@@ -6,57 +6,6 @@ use Rattle.svd.proofs.pairs.rotation_of.Tie as tie
 
 enum-told : tie.Need-enum-told
 enum-told c = search needs
-
-array-read-compute-two-sided-rotation : tie.Need-array-read-compute-two-sided-rotation
-array-read-compute-two-sided-rotation c = search needs
-
-array-read-compute-two-sided-rotation-2 : tie.Need-array-read-compute-two-sided-rotation-2
-array-read-compute-two-sided-rotation-2 c = search needs
-
-array-read-compute-two-sided-rotation-3 : tie.Need-array-read-compute-two-sided-rotation-3
-array-read-compute-two-sided-rotation-3 c = search needs
-
-array-read-compute-two-sided-rotation-4 : tie.Need-array-read-compute-two-sided-rotation-4
-array-read-compute-two-sided-rotation-4 c = search needs
-
-compute-two-sided-rotation-requires : tie.Need-compute-two-sided-rotation-requires
-compute-two-sided-rotation-requires c κs = search needs
-
-enum-told-2 : tie.Need-enum-told-2
-enum-told-2 c = search needs
-
-array-read-compute-two-sided-rotation-5 : tie.Need-array-read-compute-two-sided-rotation-5
-array-read-compute-two-sided-rotation-5 c = search needs
-
-array-read-compute-two-sided-rotation-6 : tie.Need-array-read-compute-two-sided-rotation-6
-array-read-compute-two-sided-rotation-6 c = search needs
-
-array-read-compute-two-sided-rotation-7 : tie.Need-array-read-compute-two-sided-rotation-7
-array-read-compute-two-sided-rotation-7 c = search needs
-
-array-read-compute-two-sided-rotation-8 : tie.Need-array-read-compute-two-sided-rotation-8
-array-read-compute-two-sided-rotation-8 c = search needs
-
-compute-two-sided-rotation-requires-2 : tie.Need-compute-two-sided-rotation-requires-2
-compute-two-sided-rotation-requires-2 c κs = search needs
-
-enum-told-3 : tie.Need-enum-told-3
-enum-told-3 c = search needs
-
-array-read-compute-two-sided-rotation-9 : tie.Need-array-read-compute-two-sided-rotation-9
-array-read-compute-two-sided-rotation-9 c = search needs
-
-array-read-compute-two-sided-rotation-10 : tie.Need-array-read-compute-two-sided-rotation-10
-array-read-compute-two-sided-rotation-10 c = search needs
-
-array-read-compute-two-sided-rotation-11 : tie.Need-array-read-compute-two-sided-rotation-11
-array-read-compute-two-sided-rotation-11 c = search needs
-
-array-read-compute-two-sided-rotation-12 : tie.Need-array-read-compute-two-sided-rotation-12
-array-read-compute-two-sided-rotation-12 c = search needs
-
-compute-two-sided-rotation-requires-3 : tie.Need-compute-two-sided-rotation-requires-3
-compute-two-sided-rotation-requires-3 c κs = search needs
 
 returns : tie.Need-returns
 unfolding sidesOf
@@ -75,23 +24,23 @@ rotation-of-spec =
     tie.close
     (tie.spec
     enum-told
-    array-read-compute-two-sided-rotation
-    array-read-compute-two-sided-rotation-2
-    array-read-compute-two-sided-rotation-3
-    array-read-compute-two-sided-rotation-4
-    compute-two-sided-rotation-requires
-    enum-told-2
-    array-read-compute-two-sided-rotation-5
-    array-read-compute-two-sided-rotation-6
-    array-read-compute-two-sided-rotation-7
-    array-read-compute-two-sided-rotation-8
-    compute-two-sided-rotation-requires-2
-    enum-told-3
-    array-read-compute-two-sided-rotation-9
-    array-read-compute-two-sided-rotation-10
-    array-read-compute-two-sided-rotation-11
-    array-read-compute-two-sided-rotation-12
-    compute-two-sided-rotation-requires-3
+    (λ c. search needs)
+    (λ c. search needs)
+    (λ c. search needs)
+    (λ c. search needs)
+    (λ c κs. search needs)
+    (λ c. search needs)
+    (λ c. search needs)
+    (λ c. search needs)
+    (λ c. search needs)
+    (λ c. search needs)
+    (λ c κs. search needs)
+    (λ c. search needs)
+    (λ c. search needs)
+    (λ c. search needs)
+    (λ c. search needs)
+    (λ c. search needs)
+    (λ c κs. search needs)
     returns
     returns-2
     returns-3)

@@ -1,18 +1,12 @@
--- The length that the pair is divided by is the one that the definition names. Assumes nothing.
+-- The length that the pair is divided by is the one that the definition names.
 use borrow.Author.Needs.{needs}
 use Rattle.svd.specs.Polar.{polarOf}
 use Rattle.svd.proofs.polar.compute_polar_2x2.Statement.{statement}
 use Rattle.svd.proofs.polar.compute_polar_2x2.Tie as tie
-
-hypot-fast-requires : tie.Need-hypot-fast-requires
-hypot-fast-requires c κs = search needs
-
-polar-by-requires : tie.Need-polar-by-requires
-polar-by-requires c κs = search needs
 
 returns : tie.Need-returns
 unfolding polarOf
 returns c = simp (c .polar-by .ensures, c .before .hypot-fast .ensures)
 
 pub compute-polar-2x2-spec : {M : Type 1} → statement M
-compute-polar-2x2-spec = tie.close (tie.spec hypot-fast-requires polar-by-requires returns)
+compute-polar-2x2-spec = tie.close (tie.spec (λ c κs. search needs) (λ c κs. search needs) returns)

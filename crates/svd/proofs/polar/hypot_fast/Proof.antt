@@ -1,20 +1,8 @@
--- Each return is one outcome of the comparison of the magnitudes. Assumes nothing.
+-- Each return is one outcome of the comparison of the magnitudes.
 use borrow.Author.Needs.{needs}
 use Rattle.svd.specs.Polar.{hypotOf}
 use Rattle.svd.proofs.polar.hypot_fast.Statement.{statement}
 use Rattle.svd.proofs.polar.hypot_fast.Tie as tie
-
-magnitude-requires : tie.Need-magnitude-requires
-magnitude-requires c κs = search needs
-
-magnitude-requires-2 : tie.Need-magnitude-requires-2
-magnitude-requires-2 c κs = search needs
-
-hypot-of-sizes-requires : tie.Need-hypot-of-sizes-requires
-hypot-of-sizes-requires c κs = search needs
-
-hypot-of-sizes-requires-2 : tie.Need-hypot-of-sizes-requires-2
-hypot-of-sizes-requires-2 c κs = search needs
 
 returns : tie.Need-returns
 unfolding hypotOf
@@ -28,9 +16,9 @@ pub hypot-fast-spec : {M : Type 1} → statement M
 hypot-fast-spec =
     tie.close
     (tie.spec
-    magnitude-requires
-    magnitude-requires-2
-    hypot-of-sizes-requires
-    hypot-of-sizes-requires-2
+    (λ c κs. search needs)
+    (λ c κs. search needs)
+    (λ c κs. search needs)
+    (λ c κs. search needs)
     returns
     returns-2)

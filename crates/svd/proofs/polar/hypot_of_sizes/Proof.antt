@@ -1,4 +1,4 @@
--- Each return is one outcome of the tests for zero, and the root is the one that the definition names. Assumes nothing.
+-- Each return is one outcome of the tests for zero, and the root is the one that the definition names.
 use borrow.Author.Needs.{needs}
 use Rattle.svd.proofs.polar.hypot_of_sizes.Statement.{statement}
 use Rattle.svd.proofs.polar.hypot_of_sizes.Tie as tie
@@ -9,11 +9,8 @@ returns c = simp (c .before .if1 .taken, c .if2 .taken)
 returns-2 : tie.Need-returns-2
 returns-2 c = simp (c .before .if1 .taken, c .if2 .left)
 
-root-requires : tie.Need-root-requires
-root-requires c κs = search needs
-
 returns-3 : tie.Need-returns-3
 returns-3 c = simp (c .before .if1 .left, c .root .ensures .is)
 
 pub hypot-of-sizes-spec : {M : Type 1} → statement M
-hypot-of-sizes-spec = tie.close (tie.spec returns returns-2 root-requires returns-3)
+hypot-of-sizes-spec = tie.close (tie.spec returns returns-2 (λ c κs. search needs) returns-3)

@@ -1,14 +1,8 @@
--- Each return is one outcome of the test for zero, and the call there answers for it. Assumes nothing.
+-- Each return is one outcome of the test for zero, and the call there answers for it.
 use borrow.Author.Needs.{needs}
 use Rattle.svd.specs.Polar.{polarBy}
 use Rattle.svd.proofs.polar.polar_by.Statement.{statement}
 use Rattle.svd.proofs.polar.polar_by.Tie as tie
-
-symmetrised-requires : tie.Need-symmetrised-requires
-symmetrised-requires c κs = search needs
-
-symmetrised-requires-2 : tie.Need-symmetrised-requires-2
-symmetrised-requires-2 c κs = search needs
 
 returns : tie.Need-returns
 unfolding polarBy
@@ -19,4 +13,4 @@ unfolding polarBy
 returns-2 c = rw (c .before .if1 .left) (c .symmetrised2 .ensures)
 
 pub polar-by-spec : {M : Type 1} → statement M
-polar-by-spec = tie.close (tie.spec symmetrised-requires symmetrised-requires-2 returns returns-2)
+polar-by-spec = tie.close (tie.spec (λ c κs. search needs) (λ c κs. search needs) returns returns-2)

@@ -1,31 +1,13 @@
--- Each return is one outcome of the tests of values, U and V. Assumes nothing.
+-- Each return is one outcome of the tests of values, U and V.
 use borrow.Author.Needs.{needs}
 use Rattle.svd.specs.Svd2x2.{judgedSvd2}
 use Rattle.float.proofs.Branches.{fails, passes}
 use Rattle.svd.proofs.svd2x2.judge.Statement.{statement}
 use Rattle.svd.proofs.svd2x2.judge.Tie as tie
 
-slice-aggregate-all-finite : tie.Need-slice-aggregate-all-finite
-slice-aggregate-all-finite c = search needs
-
-all-finite-requires : tie.Need-all-finite-requires
-all-finite-requires c κs = search needs
-
-refused-requires : tie.Need-refused-requires
-refused-requires c κs = search needs
-
 returns : tie.Need-returns
 unfolding judgedSvd2
 returns c = simp (c .refused .ensures, fails (c .before .before .all-finite .ensures) (c .before .if1 .taken))
-
-slice-aggregate-all-finite-2 : tie.Need-slice-aggregate-all-finite-2
-slice-aggregate-all-finite-2 c = search needs
-
-all-finite-requires-2 : tie.Need-all-finite-requires-2
-all-finite-requires-2 c κs = search needs
-
-refused-requires-2 : tie.Need-refused-requires-2
-refused-requires-2 c κs = search needs
 
 returns-2 : tie.Need-returns-2
 unfolding judgedSvd2
@@ -35,15 +17,6 @@ returns-2 c =
       passes (c .before .before .before .before .before .all-finite .ensures) (c .before .before .before .before .if1 .left),
       fails (c .before .before .all-finite2 .ensures) (c .before .if2 .taken),
     )
-
-slice-aggregate-all-finite-3 : tie.Need-slice-aggregate-all-finite-3
-slice-aggregate-all-finite-3 c = search needs
-
-all-finite-requires-3 : tie.Need-all-finite-requires-3
-all-finite-requires-3 c κs = search needs
-
-refused-requires-3 : tie.Need-refused-requires-3
-refused-requires-3 c κs = search needs
 
 returns-3 : tie.Need-returns-3
 unfolding judgedSvd2
@@ -68,16 +41,16 @@ pub judge-spec : {M : Type 1} → statement M
 judge-spec =
     tie.close
     (tie.spec
-    slice-aggregate-all-finite
-    all-finite-requires
-    refused-requires
+    (λ c. search needs)
+    (λ c κs. search needs)
+    (λ c κs. search needs)
     returns
-    slice-aggregate-all-finite-2
-    all-finite-requires-2
-    refused-requires-2
+    (λ c. search needs)
+    (λ c κs. search needs)
+    (λ c κs. search needs)
     returns-2
-    slice-aggregate-all-finite-3
-    all-finite-requires-3
-    refused-requires-3
+    (λ c. search needs)
+    (λ c κs. search needs)
+    (λ c κs. search needs)
     returns-3
     returns-4)

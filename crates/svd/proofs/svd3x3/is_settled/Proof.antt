@@ -1,18 +1,12 @@
--- The sum of the largest pair and the limit are those of the definition. Assumes nothing.
+-- The sum of the largest pair and the limit are those of the definition.
 use borrow.Author.Needs.{needs}
 use Rattle.float.specs.Width.{F}
 use Rattle.svd.proofs.Turns.{tested}
 use Rattle.svd.proofs.svd3x3.is_settled.Statement.{statement}
 use Rattle.svd.proofs.svd3x3.is_settled.Tie as tie
 
-find-largest-off-diag-nonsym-requires : tie.Need-find-largest-off-diag-nonsym-requires
-find-largest-off-diag-nonsym-requires c κs = search needs
-
-limit-requires : tie.Need-limit-requires
-limit-requires c κs = search needs
-
 returns : tie.Need-returns
 returns c = tested F _ (c .before .before .find-largest-off-diag-nonsym .ensures) (c .before .limit .ensures)
 
 pub is-settled-spec : {M : Type 1} → statement M
-is-settled-spec = tie.close (tie.spec find-largest-off-diag-nonsym-requires limit-requires returns)
+is-settled-spec = tie.close (tie.spec (λ c κs. search needs) (λ c κs. search needs) returns)

@@ -1,31 +1,13 @@
--- Each return is one outcome of the test of the input; the answer past it is judged from the last state. Assumes nothing.
+-- Each return is one outcome of the test of the input; the answer past it is judged from the last state.
 use borrow.Author.Needs.{needs}
 use Rattle.svd.specs.Svd3x3.{endOf, svdOf}
 use Rattle.float.proofs.Branches.{fails, passes}
 use Rattle.svd.proofs.svd3x3.svd.Statement.{statement}
 use Rattle.svd.proofs.svd3x3.svd.Tie as tie
 
-slice-aggregate-all-finite : tie.Need-slice-aggregate-all-finite
-slice-aggregate-all-finite c = search needs
-
-all-finite-requires : tie.Need-all-finite-requires
-all-finite-requires c κs = search needs
-
-refused-requires : tie.Need-refused-requires
-refused-requires c κs = search needs
-
 returns : tie.Need-returns
 unfolding svdOf
 returns c = simp (c .refused .ensures, fails (c .before .before .all-finite .ensures) (c .before .if1 .taken))
-
-work-requires : tie.Need-work-requires
-work-requires c κs = search needs
-
-factors-requires : tie.Need-factors-requires
-factors-requires c κs = search needs
-
-judge-requires : tie.Need-judge-requires
-judge-requires c κs = search needs
 
 returns-2 : tie.Need-returns-2
 unfolding svdOf endOf
@@ -41,11 +23,11 @@ pub svd-spec : {M : Type 1} → statement M
 svd-spec =
     tie.close
     (tie.spec
-    slice-aggregate-all-finite
-    all-finite-requires
-    refused-requires
+    (λ c. search needs)
+    (λ c κs. search needs)
+    (λ c κs. search needs)
     returns
-    work-requires
-    factors-requires
-    judge-requires
+    (λ c κs. search needs)
+    (λ c κs. search needs)
+    (λ c κs. search needs)
     returns-2)

@@ -1,4 +1,4 @@
--- The invariant: what is left of the run, from the state at hand, leaves what the whole run leaves. The measure is the turns left. Assumes nothing.
+-- The invariant: what is left of the run, from the state at hand, leaves what the whole run leaves. The measure is the turns left.
 use mathlib.Core.Path.{_≡_, sym, ap, _∙_}
 use mathlib.Core.Bool.{Bool}
 use Prim.Native.Nat.{ℕ, _+_, _-_, _≤_}
@@ -24,26 +24,8 @@ Inv-loop b₀ u₀ v₀ count₀ b u v count = (count ≤ 25) × (workOf F (25 -
 abbrev μ-loop : tie.MeasureT-loop
 μ-loop b₀ u₀ v₀ count₀ b u v count = 25 - count
 
-zeros-requires : tie.Need-zeros-requires Inv-loop μ-loop
-zeros-requires c κs = search needs
-
-set-identity-requires : tie.Need-set-identity-requires Inv-loop μ-loop
-set-identity-requires c κs = search needs
-
-zeros-requires-2 : tie.Need-zeros-requires-2 Inv-loop μ-loop
-zeros-requires-2 c κs = search needs
-
-set-identity-requires-2 : tie.Need-set-identity-requires-2 Inv-loop μ-loop
-set-identity-requires-2 c κs = search needs
-
 loop-holds : tie.Need-loop-holds Inv-loop μ-loop
 loop-holds c = (omega arith, rw (c .set-identity2 .ensures, c .before .before .set-identity .ensures))
-
-find-largest-off-diag-nonsym-requires : tie.Need-find-largest-off-diag-nonsym-requires Inv-loop μ-loop
-find-largest-off-diag-nonsym-requires c κs = search needs
-
-limit-requires : tie.Need-limit-requires Inv-loop μ-loop
-limit-requires c κs = search needs
 
 returns : tie.Need-returns Inv-loop μ-loop
 unfolding workOf
@@ -51,24 +33,6 @@ returns c =
     let l = c .before .before .before .before .before .loop in
     let h = sym (tested F (l .b .«data») (c .before .before .before .find-largest-off-diag-nonsym .ensures) (c .before .before .limit .ensures)) ∙ c .if1 .taken in
     ap working (leaves (stepOf F) done 25 (l .count) (state (l .b) (l .u) (l .v) (l .count)) h (l .inv .1))
-
-rotation-of-requires : tie.Need-rotation-of-requires Inv-loop μ-loop
-rotation-of-requires c κs = search needs
-
-apply-two-sided-rotation-requires : tie.Need-apply-two-sided-rotation-requires Inv-loop μ-loop
-apply-two-sided-rotation-requires c κs = search needs
-
-turn-columns-requires : tie.Need-turn-columns-requires Inv-loop μ-loop
-turn-columns-requires c κs = search needs
-
-turn-columns-requires-2 : tie.Need-turn-columns-requires-2 Inv-loop μ-loop
-turn-columns-requires-2 c κs = search needs
-
-add-count : tie.Need-add-count Inv-loop μ-loop
-add-count c = search needs
-
-loop-less : tie.Need-loop-less Inv-loop μ-loop
-loop-less c = search needs
 
 loop-again : tie.Need-loop-again Inv-loop μ-loop
 unfolding workOf
@@ -97,19 +61,19 @@ work-spec =
     (tie.spec
     Inv-loop
     μ-loop
-    zeros-requires
-    set-identity-requires
-    zeros-requires-2
-    set-identity-requires-2
+    (λ c κs. search needs)
+    (λ c κs. search needs)
+    (λ c κs. search needs)
+    (λ c κs. search needs)
     loop-holds
-    find-largest-off-diag-nonsym-requires
-    limit-requires
+    (λ c κs. search needs)
+    (λ c κs. search needs)
     returns
-    rotation-of-requires
-    apply-two-sided-rotation-requires
-    turn-columns-requires
-    turn-columns-requires-2
-    add-count
-    loop-less
+    (λ c κs. search needs)
+    (λ c κs. search needs)
+    (λ c κs. search needs)
+    (λ c κs. search needs)
+    (λ c. search needs)
+    (λ c. search needs)
     loop-again
     returns-2)

@@ -1,4 +1,4 @@
--- Both lengths passed, the numbers read one by one are the whole input. Assumes nothing.
+-- Both lengths passed, the numbers read one by one are the whole input.
 use mathlib.Core.Path.{refl}
 use borrow.Author.Needs.{needs}
 use borrow.Author.Tests.{eq-eqb, ne-eqb}
@@ -15,21 +15,6 @@ returns-2 : tie.Need-returns-2
 unfolding mulOf
 returns-2 c = rw (eq-eqb _ 2 (c .before .if1 .left), ne-eqb _ 2 (c .if2 .taken)) (refl, refl)
 
-shared-slice-read-t10 : tie.Need-shared-slice-read-t10
-shared-slice-read-t10 c = search needs
-
-shared-slice-read-t12 : tie.Need-shared-slice-read-t12
-shared-slice-read-t12 c = search needs
-
-product-requires : tie.Need-product-requires
-product-requires c κs = search needs
-
-put2-requires : tie.Need-put2-requires
-put2-requires c κs = search needs
-
-same-length : tie.Need-same-length
-same-length c = search needs
-
 returns-3 : tie.Need-returns-3
 unfolding mulOf
 returns-3 c =
@@ -43,9 +28,9 @@ mul-spec =
     (tie.spec
     returns
     returns-2
-    shared-slice-read-t10
-    shared-slice-read-t12
-    product-requires
-    put2-requires
-    same-length
+    (λ c. search needs)
+    (λ c. search needs)
+    (λ c κs. search needs)
+    (λ c κs. search needs)
+    (λ c. search needs)
     returns-3)

@@ -1,4 +1,4 @@
--- Two columns that differ are one of the pairs, in one order or the other. Assumes nothing.
+-- Two columns that differ are one of the pairs, in one order or the other.
 use mathlib.Core.Path.{_≡_, sym, ap, _∙_}
 use native.Mathlib.Omega.{arith}
 use borrow.Author.Needs.{needs}
@@ -14,13 +14,10 @@ returns c =
     let l : length (a .self .«data») ≡ 4 = search needs in
     ap mat2 (sym (exchange-same 2 (a .i) (a .j) (a .self .«data») (c .if1 .taken) l))
 
-swap12-requires : tie.Need-swap12-requires
-swap12-requires c κs = search needs
-
 returns-2 : tie.Need-returns-2
 returns-2 c =
     let a = c .before .before .args in
     c .swap12 .ensures ∙ ap mat2 (sym (exchange-ordered 2 (a .i) (a .j) 0 1 (a .self .«data») (λ l. (omega arith, omega arith)) (λ l. (omega arith, omega arith))))
 
 pub swapped-spec : {M : Type 1} → statement M
-swapped-spec = tie.close (tie.spec returns swap12-requires returns-2)
+swapped-spec = tie.close (tie.spec returns (λ c κs. search needs) returns-2)

@@ -1,4 +1,4 @@
--- Two columns that differ are one of the pairs, in one order or the other. Assumes nothing.
+-- Two columns that differ are one of the pairs, in one order or the other.
 use mathlib.Core.Path.{_≡_, sym, ap, _∙_}
 use native.Mathlib.Omega.{arith}
 use borrow.Author.Needs.{needs}
@@ -14,30 +14,15 @@ returns c =
     let l : length (a .self .«data») ≡ 9 = search needs in
     ap mat3 (sym (exchange-same 3 (a .i) (a .j) (a .self .«data») (c .if1 .taken) l))
 
-add-if2 : tie.Need-add-if2
-add-if2 c = search needs
-
-swap12-requires : tie.Need-swap12-requires
-swap12-requires c κs = search needs
-
 returns-2 : tie.Need-returns-2
 returns-2 c =
     let a = c .before .before .before .args in
     c .swap12 .ensures ∙ ap mat3 (sym (exchange-ordered 3 (a .i) (a .j) 0 1 (a .self .«data») (λ l. (omega arith, omega arith)) (λ l. (omega arith, omega arith))))
 
-add-if3 : tie.Need-add-if3
-add-if3 c = search needs
-
-swap13-requires : tie.Need-swap13-requires
-swap13-requires c κs = search needs
-
 returns-3 : tie.Need-returns-3
 returns-3 c =
     let a = c .before .before .before .before .args in
     c .swap13 .ensures ∙ ap mat3 (sym (exchange-ordered 3 (a .i) (a .j) 0 2 (a .self .«data») (λ l. (omega arith, omega arith)) (λ l. (omega arith, omega arith))))
-
-swap23-requires : tie.Need-swap23-requires
-swap23-requires c κs = search needs
 
 returns-4 : tie.Need-returns-4
 returns-4 c =
@@ -49,11 +34,11 @@ swapped-spec =
     tie.close
     (tie.spec
     returns
-    add-if2
-    swap12-requires
+    (λ c. search needs)
+    (λ c κs. search needs)
     returns-2
-    add-if3
-    swap13-requires
+    (λ c. search needs)
+    (λ c κs. search needs)
     returns-3
-    swap23-requires
+    (λ c κs. search needs)
     returns-4)

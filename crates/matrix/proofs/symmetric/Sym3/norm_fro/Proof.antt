@@ -1,25 +1,13 @@
--- Each return has passed the tests before it, in the order of the definition. Assumes nothing.
+-- Each return has passed the tests before it, in the order of the definition.
 use borrow.Author.Needs.{needs}
 use Rattle.matrix.specs.Symmetric.{normFroOf}
 use Rattle.float.proofs.Branches.{passes, fails}
 use Rattle.matrix.proofs.symmetric.Sym3.norm_fro.Statement.{statement}
 use Rattle.matrix.proofs.symmetric.Sym3.norm_fro.Tie as tie
 
-slice-aggregate-all-finite : tie.Need-slice-aggregate-all-finite
-slice-aggregate-all-finite c = search needs
-
-all-finite-requires : tie.Need-all-finite-requires
-all-finite-requires c κs = search needs
-
 returns : tie.Need-returns
 unfolding normFroOf
 returns c = rw (fails (c .before .all-finite .ensures) (c .if1 .taken))
-
-norm-requires : tie.Need-norm-requires
-norm-requires c κs = search needs
-
-judge-requires : tie.Need-judge-requires
-judge-requires c κs = search needs
 
 returns-2 : tie.Need-returns-2
 unfolding normFroOf
@@ -30,9 +18,9 @@ pub norm-fro-spec : {M : Type 1} → statement M
 norm-fro-spec =
     tie.close
     (tie.spec
-    slice-aggregate-all-finite
-    all-finite-requires
+    (λ c. search needs)
+    (λ c κs. search needs)
     returns
-    norm-requires
-    judge-requires
+    (λ c κs. search needs)
+    (λ c κs. search needs)
     returns-2)

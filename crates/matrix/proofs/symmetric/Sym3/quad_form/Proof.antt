@@ -1,4 +1,4 @@
--- Both lengths passed, the numbers read one by one are the first three of each slice. Assumes nothing.
+-- Both lengths passed, the numbers read one by one are the first three of each slice.
 use borrow.Author.Needs.{needs}
 use borrow.Author.Tests.{le-leb, lt-leb}
 use Rattle.matrix.specs.Symmetric.{quadFormOf}
@@ -13,27 +13,6 @@ returns c = rw (lt-leb 3 _ (c .if1 .taken))
 returns-2 : tie.Need-returns-2
 unfolding quadFormOf
 returns-2 c = rw (le-leb 3 _ (c .before .if1 .left), lt-leb 3 _ (c .if2 .taken))
-
-shared-slice-read-t7 : tie.Need-shared-slice-read-t7
-shared-slice-read-t7 c = search needs
-
-shared-slice-read-t9 : tie.Need-shared-slice-read-t9
-shared-slice-read-t9 c = search needs
-
-shared-slice-read-t11 : tie.Need-shared-slice-read-t11
-shared-slice-read-t11 c = search needs
-
-shared-slice-read-t14 : tie.Need-shared-slice-read-t14
-shared-slice-read-t14 c = search needs
-
-shared-slice-read-t16 : tie.Need-shared-slice-read-t16
-shared-slice-read-t16 c = search needs
-
-shared-slice-read-t18 : tie.Need-shared-slice-read-t18
-shared-slice-read-t18 c = search needs
-
-quad-judged-requires : tie.Need-quad-judged-requires
-quad-judged-requires c κs = search needs
 
 returns-3 : tie.Need-returns-3
 unfolding quadFormOf
@@ -50,11 +29,11 @@ quad-form-spec =
     (tie.spec
     returns
     returns-2
-    shared-slice-read-t7
-    shared-slice-read-t9
-    shared-slice-read-t11
-    shared-slice-read-t14
-    shared-slice-read-t16
-    shared-slice-read-t18
-    quad-judged-requires
+    (λ c. search needs)
+    (λ c. search needs)
+    (λ c. search needs)
+    (λ c. search needs)
+    (λ c. search needs)
+    (λ c. search needs)
+    (λ c κs. search needs)
     returns-3)
