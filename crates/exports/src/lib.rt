@@ -10,7 +10,7 @@ ghost use mathlib.Core.Path.{_≡_};
 ghost use Rattle.float.specs.Width.{F};
 ghost use Rattle.float.specs.Sign.{signumOf, signumBitsOf};
 ghost use Rattle.float.specs.Root.{rootBitsOf};
-ghost use Rattle.float.specs.Nearest.{RootPromise};
+ghost use Rattle.float.specs.Root.{RootPromise};
 
 #[no_mangle]
 pub extern "C" fn zanikory_root(x: Real) -> Real

@@ -7,8 +7,10 @@ pub mod Turns
 pub mod Exponent
 pub mod Patterns
 pub mod Finite
+pub mod Judged
 pub mod Negation
 pub mod Keys
+pub mod Zeros
 pub mod Units
 pub mod Rounding
 pub mod Correct

@@ -27,9 +27,8 @@ ghost use lib.Signed.{leZ};
 ghost use lib.Dec.{T};
 ghost use lib.Ieee.{prec, low, hid, ones};
 ghost use Rattle.float.specs.Width.{F};
-ghost use Rattle.float.specs.Root.{rootBitsOf};
-ghost use Rattle.float.specs.Digits.{WholeRoot, ScaledUp};
-ghost use Rattle.float.specs.Nearest.{RootPromise, RootPattern};
+ghost use Rattle.float.specs.Root.{rootBitsOf, RootPromise};
+ghost use Rattle.float.specs.Digits.{WholeRoot, ScaledUp, RootPattern};
 
 // A whole root and what is left beyond its square.
 pub struct Whole {

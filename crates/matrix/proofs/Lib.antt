@@ -1,5 +1,6 @@
 pub mod Tables
 pub mod Placing
+pub mod Owed
 pub mod Answered
 pub mod Moves
 pub mod Sums

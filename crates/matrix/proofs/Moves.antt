@@ -8,8 +8,9 @@ use native.Mathlib.Omega.{arith}
 use borrow.Author.Tests.{ltb-true, ltb-false, eqb-true, eqb-false, eq-eqb, ne-eqb}
 use lib.Dec.{ltb, eqb}
 use lib.ListN.{length}
-use lib.Ieee.{Float, nan, inf, fin, neg}
+use lib.Ieee.{Float, neg}
 use Rattle.float.specs.Choice.{pick}
+use Rattle.float.proofs.Negation.{neg-twice}
 use Rattle.matrix.specs.Places.{at, squareIndex}
 use Rattle.matrix.specs.Square.{squareOf, entryOf, transposeOf, exchanged, exchangeOf, negateOf}
 use Rattle.matrix.proofs.Tables.{at-tabulate, tabulate-same, tabulate-all}
@@ -112,14 +113,6 @@ exchange-ordered n i j a b xs rising falling = go (ltb i j) refl
     go : (t : Bool) → ltb i j ≡ t → exchangeOf n i j xs ≡ exchangeOf n a b xs
     go true e = let p = rising (ltb-true i j e) in cc (p .0, p .1)
     go false e = let p = falling (ltb-false i j e) in cc (p .0, p .1, exchange-symmetric n b a xs)
-
-pub neg-twice : (x : Float) → neg (neg x) ≡ x
-unfolding neg
-neg-twice nan = refl
-neg-twice (inf true) = refl
-neg-twice (inf false) = refl
-neg-twice (fin true m e) = refl
-neg-twice (fin false m e) = refl
 
 pub negate-twice : (n i : ℕ) (xs : List Float) → length xs ≡ n * n → negateOf n i (negateOf n i xs) ≡ xs
 negate-twice n i xs e =

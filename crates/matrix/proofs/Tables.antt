@@ -1,12 +1,16 @@
 -- A list of n numbers is the table of what stands at its places: by induction on n.
 use mathlib.Core.Path.{_≡_, refl, ap, _∙_}
+use mathlib.Core.Bool.{true}
 use mathlib.Core.List.{List, [], _∷_, _++_}
 use Prim.Native.Nat.{ℕ, zero, suc, _≤_, _<_}
 use native.Mathlib.Nat.{zero-add, le-of-suc-le-suc}
 use native.Mathlib.Omega.{arith}
 use lib.ListN.{length, take, drop}
 use lib.Seq.{take-all, sets, sets-eq}
-use lib.Ieee.{Float}
+use lib.Ieee.{Float, Format}
+use Rattle.float.specs.Sign.{finite, allFinite}
+use Rattle.float.proofs.Finite.{zero-finite}
+use Rattle.matrix.specs.Answer.{zeros}
 use Rattle.matrix.specs.Places.{at, tabulate}
 
 pub length-tabulate : (n : ℕ) (g : ℕ → Float) → length (tabulate n g) ≡ n
@@ -32,9 +36,6 @@ tabulate-take (suc n) (x ∷ xs) h = ap (λ ys. x ∷ ys) (tabulate-take n xs (o
 pub tabulate-all : (n : ℕ) (xs : List Float) → length xs ≡ n → tabulate n (at xs) ≡ xs
 tabulate-all n xs e = tabulate-take n xs (omega arith) ∙ take-all n xs (omega arith)
 
-pub tabulate-at : (xs : List Float) → tabulate (length xs) (at xs) ≡ xs
-tabulate-at xs = tabulate-all (length xs) xs refl
-
 -- n numbers stored one by one from the first place on
 pub stored : (n : ℕ) (v y : List Float) → length v ≡ n → n ≤ length y → sets y 0 (tabulate n (at v)) ≡ v ++ drop n y
 stored n v y e h = rw (tabulate-all n v e, sets-eq v y 0 (omega arith), e, zero-add)
@@ -47,3 +48,15 @@ take-tabulate (suc n) (suc m) g h = ap (λ (l : List Float). g 0 ∷ l) (take-ta
 
 pub first-tabulate : (n m : ℕ) (g : ℕ → Float) → n ≤ m → tabulate n (at (tabulate m g)) ≡ tabulate n g
 first-tabulate n m g h = tabulate-take n (tabulate m g) (rw (length-tabulate m g) h) ∙ take-tabulate n m g h
+
+-- ---- finite numbers
+
+pub table-finite : (n : ℕ) (g : ℕ → Float) → ((i : ℕ) → i < n → finite (g i) ≡ true) → allFinite (tabulate n g) ≡ true
+unfolding allFinite
+table-finite zero g h = refl
+table-finite (suc n) g h = rw (h 0 (omega arith), table-finite n (λ (i : ℕ). g (suc i)) (λ i l. h (suc i) (omega arith)))
+
+pub zeros-finite : (f : Format) (n : ℕ) → allFinite (zeros f n) ≡ true
+unfolding allFinite
+zeros-finite f zero = refl
+zeros-finite f (suc n) = rw (zero-finite f, zeros-finite f n)

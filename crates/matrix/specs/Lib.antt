@@ -1,4 +1,5 @@
 pub mod Answer
+pub mod Owed
 pub mod Places
 pub mod Square
 pub mod Symmetric

@@ -10,7 +10,7 @@ use lib.Dec.{eqb}
 use lib.ListN.{length}
 use lib.Ieee.{Float, nan, inf, Format, binary32, binary64, neg, odd, prec, low, ones, hid, top, ofFields, ofBits}
 use Rattle.float.proofs.Choice.{by-ltb}
-use Rattle.matrix.proofs.Moves.{neg-twice}
+use Rattle.float.proofs.Negation.{neg-twice}
 use Rattle.record.specs.Bytes.{wordOf}
 use Rattle.record.specs.Layout.{numberBytes}
 use Rattle.promises.specs.Wiring.{turnedByte}

@@ -7,15 +7,16 @@ use Prim.Native.Nat.{ℕ, zero, suc, _≤_, _<_}
 use native.Mathlib.Omega.{arith}
 use lib.Dec.{eqb, ltb}
 use lib.ListN.{length}
-use lib.Ieee.{Float, Format, binary32, binary64, lt, sub, mul, div, ofBits}
+use lib.Ieee.{Float, Format, lt, sub, mul, div}
 use Rattle.float.specs.Choice.{pick}
 use Rattle.float.specs.Constants.{zeroF}
 use Rattle.float.specs.Sign.{magnitudeOf, signBitOf, finite, allFinite}
 use Rattle.float.proofs.Choice.{chosen, by-test, by-eqb, by-ltb}
-use Rattle.float.proofs.Finite.{at-finite}
+use Rattle.float.proofs.Finite.{at-finite, magnitude-finite, zero-finite}
 use Rattle.matrix.specs.Answer.{zeros}
 use Rattle.matrix.specs.Places.{at, tabulate}
 use Rattle.matrix.specs.Square.{exchangeOf, negateOf}
+use Rattle.matrix.proofs.Tables.{table-finite, zeros-finite}
 use Rattle.cholesky.specs.Pivot.{PivotAnswer, pivotOf, hasRoot}
 use Rattle.cholesky.specs.Factor.{FactorAnswer, plain, stopped, withRoot, second2Of, third3Of, rowThreeOf, second3Of, steps2Of, steps3Of, judgedFactor, factor2Of, factor3Of}
 use Rattle.cholesky.specs.Solve.{SolvedAnswer, refusedSolved, judgedSolved, solution2Of, solution3Of, factorAndSolve2Of, factorAndSolve3Of}
@@ -31,7 +32,7 @@ use Rattle.svd.specs.Polar.{Sides}
 use Rattle.svd.specs.Order.{Factors, signedColumn, below, descended, orderOf, descended2, order2Of}
 use Rattle.svd.specs.Svd2x2.{Svd2Answer, sides2Of, factors2Of, judgedSvd2, svd2Of}
 use Rattle.svd.specs.Svd3x3 as svd3
-use Rattle.svd.proofs.Ordered.Finite.{magnitude-finite, work-nine}
+use Rattle.svd.proofs.Ordered.Finite.{work-nine}
 use Rattle.kinds.specs.Work.{firstOf, padded, refusedKind, fromEigen2, fromEigen3, fromSvd2, fromSvd3, wholeFactor, fromFactor, fromSolved}
 use Rattle.kinds.specs.Work as kinds
 use Rattle.kinds.proofs.Works.{each-kind}
@@ -45,21 +46,6 @@ use Rattle.promises.specs.Vouched.{Vouched}
 -- at least k numbers, all finite
 abbrev Good : ℕ → List Float → Type 0
 Good k xs = (k ≤ length xs) × (allFinite xs ≡ true)
-
-table-finite : (n : ℕ) (g : ℕ → Float) → ((i : ℕ) → i < n → finite (g i) ≡ true) → allFinite (tabulate n g) ≡ true
-unfolding allFinite
-table-finite zero g h = refl
-table-finite (suc n) g h = rw (h 0 (omega arith), table-finite n (λ (i : ℕ). g (suc i)) (λ i l. h (suc i) (omega arith)))
-
-zero-finite : (f : Format) → finite (zeroF f) ≡ true
-unfolding finite ofBits
-zero-finite binary32 = refl
-zero-finite binary64 = refl
-
-zeros-finite : (f : Format) (n : ℕ) → allFinite (zeros f n) ≡ true
-unfolding allFinite
-zeros-finite f zero = refl
-zeros-finite f (suc n) = rw (zero-finite f, zeros-finite f n)
 
 padded-finite : (f : Format) (n k : ℕ) (xs : List Float) → Good k xs → allFinite (padded f n k xs) ≡ true
 padded-finite f n k xs h =

@@ -13,7 +13,7 @@ use lib.Ieee.{Float, Format, lt}
 use Rattle.float.specs.Width.{F}
 use Rattle.float.specs.Choice.{pick}
 use Rattle.float.specs.Sign.{magnitudeOf, signBitOf, finite, allFinite}
-use Rattle.float.proofs.Finite.{at-finite}
+use Rattle.float.proofs.Finite.{at-finite, magnitude-finite, magnitude-unsigned}
 use Rattle.matrix.specs.Places.{at}
 use Rattle.matrix.specs.Square.{negateOf}
 use Rattle.matrix.specs.declared.square.Mat2.{Mat2}
@@ -30,7 +30,7 @@ use Rattle.svd.specs.declared.svd3x3.Svd3.{Svd3}
 use Rattle.svd.proofs.Answered.{lastOf, answered, answered2}
 use Rattle.svd.proofs.Ordered.Moves.{Moved, after, each-before, swapped, moves-if, both-of-2, first-of-3, outer-of-3, last-of-3}
 use Rattle.svd.proofs.Ordered.Falling.{Descending, below2, below3, sorted2-descends, sorted3-descends}
-use Rattle.svd.proofs.Ordered.Finite.{magnitude-finite, magnitude-unsigned, work-nine}
+use Rattle.svd.proofs.Ordered.Finite.{work-nine}
 use Rattle.svd.proofs.svd2x2.svd.Reads as svd2x2-svd
 use Rattle.svd.proofs.svd3x3.svd.Reads as svd3x3-svd
 

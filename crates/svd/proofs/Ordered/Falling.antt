@@ -7,11 +7,12 @@ use native.Mathlib.Omega.{arith}
 use lib.Ieee.{Float, Format, lt, le}
 use Rattle.float.specs.Constants.{zeroF}
 use Rattle.float.specs.Sign.{signBitOf, finite}
-use Rattle.float.proofs.Keys.{Within, keyed}
+use Rattle.float.proofs.Keys.{Within, le-key, keyed}
+use Rattle.float.proofs.Zeros.{zero-least}
 use Rattle.matrix.specs.Places.{at}
 use Rattle.svd.specs.Order.{Factors}
 use Rattle.svd.proofs.Ordered.Moves.{Moved, each, moves-if, both-of-2, first-of-3, outer-of-3, last-of-3}
-use Rattle.svd.proofs.Ordered.Keys.{le-key, zero-least, sortedAt, keyAt, Placed, sort-places, sort-keeps}
+use Rattle.svd.proofs.Ordered.Keys.{sortedAt, keyAt, Placed, sort-places, sort-keeps}
 
 -- compared as numbers; no zero among them is -0
 pub record Descending (f : Format) (n : ℕ) (x : List Float) : Type 0 where

@@ -1,31 +1,15 @@
--- What an answer with code 0 puts in order is finite: a matrix keeps its nine places, and a magnitude is finite where its number is.
+-- A matrix keeps its nine places: each rotation writes all nine.
 use mathlib.Core.Path.{_≡_, refl}
-use mathlib.Core.Bool.{true, false}
 use mathlib.Core.List.{List}
 use Prim.Native.Nat.{ℕ}
 use lib.ListN.{length}
-use lib.Ieee.{Float, Format, nan, inf, fin}
-use Rattle.float.specs.Sign.{magnitudeOf, signBitOf, finite}
+use lib.Ieee.{Float, Format}
 use Rattle.eigen.specs.declared.pairs.Pair.{Pair}
 use Rattle.eigen.specs.declared.pairs.Pair.the-variants.{P12, P13, P23}
 use Rattle.eigen.proofs.Run.{run-keeps}
 use Rattle.svd.specs.Polar.{Sides}
 use Rattle.svd.specs.Pairs.{appliedOf}
 use Rattle.svd.specs.Svd3x3.{State, settledOf, stepOf, workOf}
-
--- ---- magnitudes
-
-pub magnitude-finite : (x : Float) → finite x ≡ true → finite (magnitudeOf x) ≡ true
-unfolding magnitudeOf finite
-magnitude-finite nan h = h
-magnitude-finite (inf s) h = h
-magnitude-finite (fin s m e) h = h
-
-pub magnitude-unsigned : (x : Float) → signBitOf (magnitudeOf x) ≡ false
-unfolding magnitudeOf signBitOf
-magnitude-unsigned nan = refl
-magnitude-unsigned (inf s) = refl
-magnitude-unsigned (fin s m e) = refl
 
 -- ---- a matrix keeps its nine places
 

@@ -1,52 +1,18 @@
 -- Finite floats as natural numbers, their keys: an exchange leaves the larger of two keys at the first place and the smaller at the second.
 use mathlib.Core.Path.{_≡_, refl, sym, ap, _∙_}
-use mathlib.Core.Bool.{Bool, true, false, _||_, true≢false}
+use mathlib.Core.Bool.{Bool, true, false}
 use Prim.Native.Nat.{ℕ, _≤_, _<_, min, max}
 use native.Mathlib.Omega.{arith}
-use borrow.Author.Tests.{ltb-true, ltb-false, eq-eqb}
-use lib.Dec.{ltb, eqb}
-use lib.IntN.{pos}
-use lib.Ieee.{Float, Format, binary32, binary64, nan, inf, fin, lt, le, ofBits}
+use borrow.Author.Tests.{ltb-true, ltb-false}
+use lib.Dec.{ltb}
+use lib.Ieee.{lt}
 use Rattle.float.specs.Choice.{pick}
-use Rattle.float.specs.Constants.{zeroF}
-use Rattle.float.specs.Sign.{signBitOf, finite}
-use Rattle.float.proofs.Keys.{key, Within, lt-key, eq-key, keyed}
+use Rattle.float.proofs.Keys.{key, Within, lt-key}
 use Rattle.matrix.specs.Places.{at}
 use Rattle.matrix.specs.Square.{exchanged}
 use Rattle.matrix.proofs.Tables.{at-tabulate}
 use Rattle.svd.specs.Order.{Factors}
 use Rattle.svd.proofs.Ordered.Moves.{Two, swapped}
-
--- ---- order by keys
-
-le-tests : (a b : ℕ) → a ≤ b → ltb a b || eqb a b ≡ true
-le-tests a b h = go (ltb a b) refl
-  where
-    go : (t : Bool) → ltb a b ≡ t → t || eqb a b ≡ true
-    go true e = refl
-    go false e = let l = ltb-false a b e in eq-eqb a b (omega arith)
-
-pub le-key : (L K : ℕ) (x y : Float) → Within L K x → Within L K y → key L K x ≤ key L K y → le x y ≡ true
-unfolding le
-le-key L K x y p q h = rw (lt-key L K x y p q, eq-key L K x y p q) (le-tests (key L K x) (key L K y) h)
-
--- ---- a finite number without a sign is at least zero
-
-zero-is : (f : Format) → zeroF f ≡ fin false 0 (pos 0)
-unfolding ofBits
-zero-is binary32 = refl
-zero-is binary64 = refl
-
-pub zero-least : (f : Format) (x : Float) → finite x ≡ true → signBitOf x ≡ false → le (zeroF f) x ≡ true
-unfolding finite signBitOf
-zero-least f nan h n = absurd (true≢false (sym h))
-zero-least f (inf s) h n = absurd (true≢false (sym h))
-zero-least f (fin true m e) h n = absurd (true≢false n)
-zero-least f (fin false m e) h n =
-    let z = fin false 0 (pos 0) in
-    let x = fin false m e in
-    let g = keyed z x x refl refl refl in
-    rw (zero-is f) (le-key (g .L) (g .K) z x (g .one) (g .two) (omega arith))
 
 -- ---- the keys that an exchange leaves, made where the value at i is below the one at j
 

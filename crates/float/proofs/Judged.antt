@@ -1,0 +1,30 @@
+-- A branch on the finite test is one way through `judged`, and what holds of both ways holds of it: `judged` is a choice by that test.
+use mathlib.Core.Path.{_≡_, refl, sym, _∙_}
+use mathlib.Core.Bool.{Bool, true, false}
+use mathlib.Core.List.{List}
+use Prim.Native.Nat.{ℕ}
+use lib.Ieee.{Float}
+use Rattle.float.specs.Sign.{allFinite}
+use Rattle.float.specs.Judged.{judged, judgedCall}
+use Rattle.float.proofs.Choice.{by-test}
+
+module _ {A : Type 0} (refuse : ℕ → A) (k : ℕ) (xs : List Float) (r : A) where
+  -- t is what a callee answered that promised the test
+  pub stands : {t : Bool} → t ≡ allFinite xs → t ≡ true → judged refuse k xs r ≡ r
+  unfolding judged
+  stands e h = rw (sym e ∙ h)
+
+  pub refuses : {t : Bool} → t ≡ allFinite xs → t ≡ false → judged refuse k xs r ≡ refuse k
+  unfolding judged
+  refuses e h = rw (sym e ∙ h)
+
+  pub by-judged : (P : A → Type 0) → (allFinite xs ≡ true → P r) → (allFinite xs ≡ false → P (refuse k)) → P (judged refuse k xs r)
+  unfolding judged
+  by-judged P h g = by-test P (allFinite xs) r (refuse k) h g
+
+-- the three ways through a call
+pub by-call : {A : Type 0} (refuse : ℕ → A) (used made : List Float) (r : A) (P : A → Type 0)
+    → (allFinite used ≡ true → allFinite made ≡ true → P r) → (allFinite used ≡ true → allFinite made ≡ false → P (refuse 7)) → (allFinite used ≡ false → P (refuse 5))
+    → P (judgedCall refuse used made r)
+by-call refuse used made r P done seven five =
+    by-judged refuse 5 used (judged refuse 7 made r) P (λ e. by-judged refuse 7 made r P (done e) (seven e)) five

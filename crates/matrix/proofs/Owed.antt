@@ -1,0 +1,44 @@
+-- A judged call owes what every kernel owes: each of its three ways ends in the answer or in the refusal with 5 or 7.
+use mathlib.Core.Path.{_≡_, refl, sym, ap, _∙_}
+use mathlib.Core.Bool.{true, false, true≢false}
+use mathlib.Core.List.{List}
+use mathlib.Core.Logic.{inl, inr}
+use Prim.Native.Nat.{ℕ}
+use native.Mathlib.Omega.{arith}
+use lib.Ieee.{Float}
+use Rattle.float.specs.Choice.{pick}
+use Rattle.float.specs.Sign.{allFinite}
+use Rattle.float.specs.Judged.{judgedCall}
+use Rattle.float.proofs.Judged.{by-call}
+use Rattle.matrix.specs.Owed.{Part, AllFull, Owed}
+
+module _ {A : Type 0} (code : A → ℕ) (refuse : ℕ → A) (own : (k : ℕ) → code (refuse k) ≡ k) (used made : List Float) (r : A) where
+  -- the code of each way
+  pub call-code : code (judgedCall refuse used made r) ≡ pick (allFinite used) (pick (allFinite made) (code r) 7) 5
+  call-code =
+      by-call refuse used made r (λ (q : A). code q ≡ pick (allFinite used) (pick (allFinite made) (code r) 7) 5)
+      (λ e h. rw (e, h)) (λ e h. rw (e, h) (own 7)) (λ e. rw e (own 5))
+
+  pub call-owed : (parts : A → List Part) → code r ≡ 0 → (allFinite used ≡ true → allFinite made ≡ true → AllFull (parts r)) → Owed code refuse parts used (judgedCall refuse used made r)
+  call-owed parts zero full =
+      let five = own 5 in
+      let seven = own 7 in
+      by-call refuse used made r (Owed code refuse parts used)
+      (λ e h. record {
+        known = inl zero;
+        five = ((λ k. absurd (omega arith)), (λ k. absurd (true≢false (sym e ∙ k))));
+        clear = (λ n. absurd (n zero));
+        full = (λ _. full e h);
+      })
+      (λ e h. record {
+        known = inr (inr (inr seven));
+        five = ((λ k. absurd (omega arith)), (λ k. absurd (true≢false (sym e ∙ k))));
+        clear = (λ _. ap refuse (sym seven));
+        full = (λ k. absurd (omega arith));
+      })
+      (λ e. record {
+        known = inr (inl five);
+        five = ((λ _. e), (λ _. five));
+        clear = (λ _. ap refuse (sym five));
+        full = (λ k. absurd (omega arith));
+      })
