@@ -1,51 +1,44 @@
 -- The 2x2 call: one rotation. Definitions only.
-use mathlib.Core.Bool.{Bool, true, false}
-use mathlib.Core.List.{List, [], _∷_}
+use mathlib.Core.Bool.{Bool, true, false, not}
+use mathlib.Core.List.{List, [], _∷_, _++_}
 use Prim.Native.Nat.{ℕ}
 use lib.Ieee.{Float, Format, add, sub, mul, lt, neg}
-use Rattle.float.specs.Choice.{pick}
-use Rattle.float.specs.Sign.{allFinite}
+use Rattle.float.specs.Judged.{judgedCall}
 use Rattle.matrix.specs.Answer.{zeros}
 use Rattle.matrix.specs.Places.{at}
-use Rattle.matrix.specs.Square.{mat2}
-use Rattle.eigen.specs.Rotation.{Turn, rotationOf}
+use Rattle.matrix.specs.Square.{mat2, exchangeOf}
+use Rattle.jacobi.specs.Rotation.{rotationOf}
+use Rattle.jacobi.specs.Order.{Ranked, ordered}
+use Rattle.jacobi.specs.declared.rotation.Rotation.{Rotation}
 use Rattle.eigen.specs.declared.eigen2x2.Eigen2.{Eigen2}
 use Rattle.eigen.specs.declared.eigen2x2.EigVals2.{EigVals2}
 use Rattle.eigen.specs.declared.eigen2x2.Axes2.{Axes2}
 
 -- two values, and the vectors by columns
-pub record TwoAxes : Type 0 where
-  pub values : List Float
-  pub vectors : List Float
+abbrev pub axes2 : Ranked (List Float) → Axes2
+axes2 x = record { values = x .values; vectors = mat2 (x .carried) }
 
-abbrev pub axes2 : TwoAxes → Axes2
-axes2 x = record { values = x .values; vectors = mat2 (x .vectors) }
-
-abbrev pub ofAxes2 : Axes2 → TwoAxes
-ofAxes2 x = record { values = x .values; vectors = x .vectors .«data» }
+abbrev pub ofAxes2 : Axes2 → Ranked (List Float)
+ofAxes2 x = record { values = x .values; carried = x .vectors .«data» }
 
 -- A11, A12, A22 are at 0, 1, 2
-abbrev pub turn2Of : Format → List Float → Turn
+abbrev pub turn2Of : Format → List Float → Rotation
 turn2Of f a = rotationOf f (at a 1) (at a 0) (at a 2)
 
-abbrev pub lowerOf : Format → Turn → List Float → Float
+abbrev pub lowerOf : Format → Rotation → List Float → Float
 lowerOf f r a = sub f (at a 0) (mul f (r .t) (at a 1))
 
-abbrev pub upperOf : Format → Turn → List Float → Float
+abbrev pub upperOf : Format → Rotation → List Float → Float
 upperOf f r a = add f (at a 2) (mul f (r .t) (at a 1))
 
--- the columns (c, -s) and (s, c) with their values e1 and e2, and the two exchanged
-abbrev pub kept2 : Turn → Float → Float → TwoAxes
-kept2 r e1 e2 = record { values = e1 ∷ e2 ∷ []; vectors = r .c ∷ neg (r .s) ∷ r .s ∷ r .c ∷ [] }
+-- the columns (c, -s) and (s, c) stay with their values only where the first value is below the second: a tie exchanges them
+abbrev pub notBelow : Float → Float → Bool
+notBelow x y = not (lt x y)
 
-abbrev pub exchanged2 : Turn → Float → Float → TwoAxes
-exchanged2 r e1 e2 = record { values = e2 ∷ e1 ∷ []; vectors = r .s ∷ r .c ∷ r .c ∷ neg (r .s) ∷ [] }
+unfoldable pub axesOf : Rotation → Float → Float → Ranked (List Float)
+axesOf r e1 e2 = ordered 2 notBelow (exchangeOf 2) 0 1 (record { values = e1 ∷ e2 ∷ []; carried = r .c ∷ neg (r .s) ∷ r .s ∷ r .c ∷ [] })
 
--- they stay only if e1 < e2: a tie exchanges them
-unfoldable pub axesOf : Turn → Float → Float → TwoAxes
-axesOf r e1 e2 = pick (lt e1 e2) (kept2 r e1 e2) (exchanged2 r e1 e2)
-
-unfoldable pub solved2 : Format → List Float → TwoAxes
+unfoldable pub solved2 : Format → List Float → Ranked (List Float)
 solved2 f a = axesOf (turn2Of f a) (lowerOf f (turn2Of f a) a) (upperOf f (turn2Of f a) a)
 
 -- ---- the answers, with and without vectors
@@ -65,14 +58,12 @@ ofEigen2 r = record { code = r .code; settled = r .settled; values = r .values; 
 abbrev pub refused2 : Format → ℕ → Eigen2Answer
 refused2 f k = record { code = k; settled = false; values = zeros f 2; vectors = zeros f 4 }
 
-unfoldable pub judged2 : Format → TwoAxes → Eigen2Answer
-judged2 f x =
-    pick (allFinite (x .values))
-    (pick (allFinite (x .vectors)) (record { code = 0; settled = true; values = x .values; vectors = x .vectors }) (refused2 f 7))
-    (refused2 f 7)
+-- the answer to a, whose axes are x
+unfoldable pub end2Of : Format → List Float → Ranked (List Float) → Eigen2Answer
+end2Of f a x = judgedCall (refused2 f) a (x .values ++ x .carried) (record { code = 0; settled = true; values = x .values; vectors = x .carried })
 
 unfoldable pub eigen2Of : Format → List Float → Eigen2Answer
-eigen2Of f a = pick (allFinite a) (judged2 f (solved2 f a)) (refused2 f 5)
+eigen2Of f a = end2Of f a (solved2 f a)
 
 pub record Values2Answer : Type 0 where
   pub code : ℕ
@@ -85,8 +76,8 @@ eigvals2 r = record { code = r .code; settled = r .settled; values = r .values }
 abbrev pub refusedValues2 : Format → ℕ → Values2Answer
 refusedValues2 f k = record { code = k; settled = false; values = zeros f 2 }
 
-unfoldable pub judgedValues2 : Format → List Float → Values2Answer
-judgedValues2 f values = pick (allFinite values) (record { code = 0; settled = true; values = values }) (refusedValues2 f 7)
+unfoldable pub valuesEnd2Of : Format → List Float → List Float → Values2Answer
+valuesEnd2Of f a values = judgedCall (refusedValues2 f) a values (record { code = 0; settled = true; values = values })
 
 unfoldable pub eigvals2Of : Format → List Float → Values2Answer
-eigvals2Of f a = pick (allFinite a) (judgedValues2 f (solved2 f a .values)) (refusedValues2 f 5)
+eigvals2Of f a = valuesEnd2Of f a (solved2 f a .values)

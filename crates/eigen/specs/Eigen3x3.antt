@@ -1,50 +1,51 @@
 -- The 3x3 call: states, the run of at most 25 rotations, and the answer. Definitions only.
 use mathlib.Core.Bool.{Bool, false}
-use mathlib.Core.List.{List, [], _∷_}
-use Prim.Native.Nat.{ℕ, _+_}
+use mathlib.Core.List.{List, [], _∷_, _++_}
+use Prim.Native.Nat.{ℕ}
 use lib.Ieee.{Float, Format, lt}
-use Rattle.float.specs.Choice.{pick}
 use Rattle.float.specs.Constants.{limitF}
-use Rattle.float.specs.Sign.{magnitudeOf, allFinite}
+use Rattle.float.specs.Judged.{judgedCall}
 use Rattle.matrix.specs.Answer.{zeros}
-use Rattle.matrix.specs.Square.{mat3, identityOf}
+use Rattle.matrix.specs.Square.{mat3, identityOf, exchangeOf}
 use Rattle.matrix.specs.Symmetric.{sym3}
-use Rattle.eigen.specs.Pairs.{a11, a22, a33, apq, pairOf, chosenOf, appliedOf, turnedOf}
-use Rattle.eigen.specs.Order.{Ranked, sort3Of, rankOf}
-use Rattle.eigen.specs.Run.{run}
+use Rattle.jacobi.specs.Pairs.{turnedOf}
+use Rattle.jacobi.specs.Run.{run, nothingMade, oneMore}
+use Rattle.jacobi.specs.Order.{Ranked, ordered3, ascending}
+use Rattle.jacobi.specs.declared.made.Made.{Made}
+use Rattle.eigen.specs.Pairs.{entry, offDiagOf, pairOf, chosenOf, appliedOf}
 use Rattle.eigen.specs.declared.eigen3x3.Working.{Working}
 use Rattle.eigen.specs.declared.eigen3x3.Bare.{Bare}
 use Rattle.eigen.specs.declared.eigen3x3.Eigen3.{Eigen3}
 use Rattle.eigen.specs.declared.eigen3x3.EigVals3.{EigVals3}
 
--- ---- a working state: the packed matrix, the vectors by columns, the rotations made
+-- ---- a working state: the packed matrix, the vectors by columns, what the run made
 
 pub record State : Type 0 where
   pub matrix : List Float
   pub vectors : List Float
-  pub count : ℕ
+  pub made : Made
 
 abbrev pub working : State → Working
-working s = record { a = sym3 (s .matrix); v = mat3 (s .vectors); count = s .count }
+working s = record { a = sym3 (s .matrix); v = mat3 (s .vectors); made = s .made }
 
 abbrev pub ofWorking : Working → State
-ofWorking w = record { matrix = w .a .«data»; vectors = w .v .«data»; count = w .count }
+ofWorking w = record { matrix = w .a .«data»; vectors = w .v .«data»; made = w .made }
 
 -- the same without vectors
 pub record BareState : Type 0 where
   pub matrix : List Float
-  pub count : ℕ
+  pub made : Made
 
 abbrev pub bare : BareState → Bare
-bare s = record { a = sym3 (s .matrix); count = s .count }
+bare s = record { a = sym3 (s .matrix); made = s .made }
 
 abbrev pub ofBare : Bare → BareState
-ofBare w = record { matrix = w .a .«data»; count = w .count }
+ofBare w = record { matrix = w .a .«data»; made = w .made }
 
 -- ---- the test: the largest magnitude beside the diagonal is strictly under the limit
 
 unfoldable pub settledOf : Format → List Float → Bool
-settledOf f a = lt (magnitudeOf (apq (pairOf a) a)) (limitF f)
+settledOf f a = lt (offDiagOf a .size) (limitF f)
 
 -- ---- one rotation, of the largest pair
 
@@ -55,30 +56,50 @@ unfoldable pub nextVectors : Format → List Float → List Float → List Float
 nextVectors f a v = turnedOf f (pairOf a) (chosenOf f a .c) (chosenOf f a .s) v
 
 unfoldable pub stepOf : Format → State → State
-stepOf f s = record { matrix = nextMatrix f (s .matrix); vectors = nextVectors f (s .matrix) (s .vectors); count = s .count + 1 }
+stepOf f s = record { matrix = nextMatrix f (s .matrix); vectors = nextVectors f (s .matrix) (s .vectors); made = oneMore (s .made) }
 
 unfoldable pub bareStepOf : Format → BareState → BareState
-bareStepOf f s = record { matrix = nextMatrix f (s .matrix); count = s .count + 1 }
+bareStepOf f s = record { matrix = nextMatrix f (s .matrix); made = oneMore (s .made) }
 
--- ---- at most k rotations
+-- ---- at most k rotations, and the last state of a call's 25
 
-unfoldable pub workOf : Format → ℕ → State → State
-workOf f k s = run (stepOf f) (λ (s : State). settledOf f (s .matrix)) k s
+unfoldable pub runOf : Format → ℕ → State → State
+runOf f k s = run (stepOf f) (λ (s : State). settledOf f (s .matrix)) k s
 
-unfoldable pub bareWorkOf : Format → ℕ → BareState → BareState
-bareWorkOf f k s = run (bareStepOf f) (λ (s : BareState). settledOf f (s .matrix)) k s
+unfoldable pub bareRunOf : Format → ℕ → BareState → BareState
+bareRunOf f k s = run (bareStepOf f) (λ (s : BareState). settledOf f (s .matrix)) k s
 
 abbrev pub startOf : Format → List Float → State
-startOf f a = record { matrix = a; vectors = identityOf f 3; count = 0 }
+startOf f a = record { matrix = a; vectors = identityOf f 3; made = nothingMade }
 
 abbrev pub bareStartOf : List Float → BareState
-bareStartOf a = record { matrix = a; count = 0 }
+bareStartOf a = record { matrix = a; made = nothingMade }
+
+abbrev pub lastOf : Format → List Float → State
+lastOf f a = runOf f 25 (startOf f a)
+
+abbrev pub bareLastOf : Format → List Float → BareState
+bareLastOf f a = bareRunOf f 25 (bareStartOf a)
+
+-- ---- the diagonal in order, with its columns and alone
+
+abbrev pub diagonal : List Float → List Float
+diagonal a = entry a 0 0 ∷ entry a 1 1 ∷ entry a 2 2 ∷ []
+
+abbrev pub rankOf : Ranked (List Float) → Ranked (List Float)
+rankOf = ordered3 3 ascending (exchangeOf 3)
+
+abbrev pub sort3Of : List Float → List Float
+sort3Of v = ordered3 3 ascending (λ (i j : ℕ) (u : Unit {0}). u) (record { values = v; carried = tt }) .values
+
+unfoldable pub rankedOf : State → Ranked (List Float)
+rankedOf s = rankOf (record { values = diagonal (s .matrix); carried = s .vectors })
 
 -- ---- the answer
 
 pub record EigenAnswer : Type 0 where
   pub code : ℕ
-  pub count : ℕ
+  pub made : Made
   pub settled : Bool
   pub values : List Float
   pub vectors : List Float
@@ -87,7 +108,7 @@ pub record EigenAnswer : Type 0 where
 abbrev pub eigen3 : EigenAnswer → Eigen3
 eigen3 r = record {
   code = r .code;
-  count = r .count;
+  made = r .made;
   settled = r .settled;
   values = r .values;
   vectors = mat3 (r .vectors);
@@ -97,7 +118,7 @@ eigen3 r = record {
 abbrev pub ofEigen3 : Eigen3 → EigenAnswer
 ofEigen3 r = record {
   code = r .code;
-  count = r .count;
+  made = r .made;
   settled = r .settled;
   values = r .values;
   vectors = r .vectors .«data»;
@@ -106,49 +127,49 @@ ofEigen3 r = record {
 
 -- refused: all numbers +0, no rotation, not settled
 abbrev pub refusedEigen : Format → ℕ → EigenAnswer
-refusedEigen f k = record { code = k; count = 0; settled = false; values = zeros f 3; vectors = zeros f 9; worked = zeros f 6 }
+refusedEigen f k = record { code = k; made = nothingMade; settled = false; values = zeros f 3; vectors = zeros f 9; worked = zeros f 6 }
 
--- the diagonal
-abbrev pub diagonal : List Float → List Float
-diagonal a = a11 a ∷ a22 a ∷ a33 a ∷ []
+-- the numbers worked out: the matrix and the vectors in order. The values are numbers of the matrix.
+abbrev pub numbersOf : State → List Float
+numbersOf s = s .matrix ++ rankedOf s .carried
 
-unfoldable pub rankedOf : State → Ranked
-rankedOf s = rankOf (record { values = diagonal (s .matrix); columns = s .vectors })
+abbrev pub answerOf : Format → State → EigenAnswer
+answerOf f s = record {
+  code = 0;
+  made = s .made;
+  settled = settledOf f (s .matrix);
+  values = rankedOf s .values;
+  vectors = rankedOf s .carried;
+  worked = s .matrix;
+}
 
--- 7 where a number of the answer is not finite
-unfoldable pub judgedEigen : Format → State → Ranked → EigenAnswer
-judgedEigen f s w =
-    pick (allFinite (s .matrix))
-    (pick (allFinite (w .columns))
-    (record { code = 0; count = s .count; settled = settledOf f (s .matrix); values = w .values; vectors = w .columns; worked = s .matrix })
-    (refusedEigen f 7)) (refusedEigen f 7)
-
-unfoldable pub endOf : Format → State → EigenAnswer
-endOf f s = judgedEigen f s (rankedOf s)
+-- the answer to a, whose last state is s
+unfoldable pub endOf : Format → List Float → State → EigenAnswer
+endOf f a s = judgedCall (refusedEigen f) a (numbersOf s) (answerOf f s)
 
 unfoldable pub eigenOf : Format → List Float → EigenAnswer
-eigenOf f a = pick (allFinite a) (endOf f (workOf f 25 (startOf f a))) (refusedEigen f 5)
+eigenOf f a = endOf f a (lastOf f a)
 
 -- ---- the answer without vectors
 
 pub record ValuesAnswer : Type 0 where
   pub code : ℕ
-  pub count : ℕ
+  pub made : Made
   pub settled : Bool
   pub values : List Float
   pub worked : List Float
 
 abbrev pub eigvals3 : ValuesAnswer → EigVals3
-eigvals3 r = record { code = r .code; count = r .count; settled = r .settled; values = r .values; worked = sym3 (r .worked) }
+eigvals3 r = record { code = r .code; made = r .made; settled = r .settled; values = r .values; worked = sym3 (r .worked) }
 
 abbrev pub refusedValues : Format → ℕ → ValuesAnswer
-refusedValues f k = record { code = k; count = 0; settled = false; values = zeros f 3; worked = zeros f 6 }
+refusedValues f k = record { code = k; made = nothingMade; settled = false; values = zeros f 3; worked = zeros f 6 }
 
-unfoldable pub bareEndOf : Format → BareState → ValuesAnswer
-bareEndOf f s =
-    pick (allFinite (s .matrix))
-    (record { code = 0; count = s .count; settled = settledOf f (s .matrix); values = sort3Of (diagonal (s .matrix)); worked = s .matrix })
-    (refusedValues f 7)
+abbrev pub valuesOf : Format → BareState → ValuesAnswer
+valuesOf f s = record { code = 0; made = s .made; settled = settledOf f (s .matrix); values = sort3Of (diagonal (s .matrix)); worked = s .matrix }
+
+unfoldable pub bareEndOf : Format → List Float → BareState → ValuesAnswer
+bareEndOf f a s = judgedCall (refusedValues f) a (s .matrix) (valuesOf f s)
 
 unfoldable pub eigvalsOf : Format → List Float → ValuesAnswer
-eigvalsOf f a = pick (allFinite a) (bareEndOf f (bareWorkOf f 25 (bareStartOf a))) (refusedValues f 5)
+eigvalsOf f a = bareEndOf f a (bareLastOf f a)

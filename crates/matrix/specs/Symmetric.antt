@@ -29,6 +29,10 @@ sym2Answer a = record { code = a .code; matrix = sym2 (a .value) }
 abbrev pub sym3Answer : Answer (List Float) → Sym3Answer
 sym3Answer a = record { code = a .code; matrix = sym3 (a .value) }
 
+-- the 3x3 of the numbers g r c, for r at most c
+abbrev pub packedOf : (ℕ → ℕ → Float) → List Float
+packedOf g = g 0 0 ∷ g 0 1 ∷ g 1 1 ∷ g 0 2 ∷ g 1 2 ∷ g 2 2 ∷ []
+
 -- ---- c times each number, of a matrix of size n
 
 abbrev pub scaledOf : Format → ℕ → Float → List Float → List Float

@@ -1,65 +1,42 @@
--- The three pairs of a square 3x3, column by column: which is the largest, and what a two-sided rotation makes of the matrix. Definitions only.
-use mathlib.Core.List.{List, [], _∷_}
+-- What a two-sided rotation of one pair makes of a square 3x3, and which pair is rotated. Definitions only.
+use mathlib.Core.List.{List}
+use Prim.Native.Nat.{ℕ}
 use lib.Ieee.{Float, Format, add, sub, mul}
 use Rattle.float.specs.Constants.{zeroF}
 use Rattle.float.specs.Sign.{magnitudeOf}
-use Rattle.matrix.specs.Places.{at}
-use Rattle.eigen.specs.Pairs.{largestOf}
-use Rattle.eigen.specs.declared.pairs.Pair.{Pair}
-use Rattle.eigen.specs.declared.pairs.Pair.the-variants.{P12, P13, P23}
-use Rattle.eigen.specs.declared.pairs.OffDiag.{OffDiag}
-use Rattle.svd.specs.Polar.{Sides, twoSidedOf}
+use Rattle.matrix.specs.Square.{squareOf, entryOf}
+use Rattle.jacobi.specs.Pairs.{Place, atP, atQ, atK, placeIn, indexP, indexQ, indexK, largestOf}
+use Rattle.jacobi.specs.declared.pairs.Pair.{Pair}
+use Rattle.jacobi.specs.declared.pairs.Pair.the-variants.{P12, P13, P23}
+use Rattle.jacobi.specs.declared.pairs.OffDiag.{OffDiag}
+use Rattle.svd.specs.Polar.{twoSidedOf}
+use Rattle.svd.specs.declared.polar.TwoSided.{TwoSided}
 
--- ---- the numbers by their names
+-- the number at (i, j)
+abbrev pub entry : List Float → ℕ → ℕ → Float
+entry a i j = entryOf 3 a i j
 
-abbrev pub a11 : List Float → Float
-a11 a = at a 0
-
-abbrev pub a21 : List Float → Float
-a21 a = at a 1
-
-abbrev pub a31 : List Float → Float
-a31 a = at a 2
-
-abbrev pub a12 : List Float → Float
-a12 a = at a 3
-
-abbrev pub a22 : List Float → Float
-a22 a = at a 4
-
-abbrev pub a32 : List Float → Float
-a32 a = at a 5
-
-abbrev pub a13 : List Float → Float
-a13 a = at a 6
-
-abbrev pub a23 : List Float → Float
-a23 a = at a 7
-
-abbrev pub a33 : List Float → Float
-a33 a = at a 8
-
--- ---- the pair with the largest sum of two magnitudes, the first on ties
+-- ---- the largest pair by the sum of its two magnitudes beside the diagonal
 
 abbrev pub sizeOf : Format → Pair → List Float → Float
-sizeOf f P12 a = add f (magnitudeOf (a12 a)) (magnitudeOf (a21 a))
-sizeOf f P13 a = add f (magnitudeOf (a13 a)) (magnitudeOf (a31 a))
-sizeOf f P23 a = add f (magnitudeOf (a23 a)) (magnitudeOf (a32 a))
-
-abbrev pub pairOf : Format → List Float → Pair
-pairOf f a = largestOf (sizeOf f P12 a) (sizeOf f P13 a) (sizeOf f P23 a)
+sizeOf f x a = add f (magnitudeOf (entry a (indexP x) (indexQ x))) (magnitudeOf (entry a (indexQ x) (indexP x)))
 
 abbrev pub offDiagOf : Format → List Float → OffDiag
-offDiagOf f a = record { pair = pairOf f a; size = sizeOf f (pairOf f a) a }
+offDiagOf f a = largestOf (sizeOf f P12 a) (sizeOf f P13 a) (sizeOf f P23 a)
 
--- ---- the rotation of a pair
+abbrev pub pairOf : Format → List Float → Pair
+pairOf f a = offDiagOf f a .pair
 
-unfoldable pub sidesOf : Format → Pair → List Float → Sides
-sidesOf f P12 a = twoSidedOf f (a11 a) (a21 a) (a12 a) (a22 a)
-sidesOf f P13 a = twoSidedOf f (a11 a) (a31 a) (a13 a) (a33 a)
-sidesOf f P23 a = twoSidedOf f (a22 a) (a32 a) (a23 a) (a33 a)
+-- ---- the rotation of a pair, and of the largest one
 
--- ---- the matrix after it: what lies in the pair's rows turns left, what lies in its columns turns right
+unfoldable pub sidesOf : Format → Pair → List Float → TwoSided
+sidesOf f x a =
+    twoSidedOf f (entry a (indexP x) (indexP x)) (entry a (indexQ x) (indexP x)) (entry a (indexP x) (indexQ x)) (entry a (indexQ x) (indexQ x))
+
+abbrev pub chosenOf : Format → List Float → TwoSided
+chosenOf f a = sidesOf f (pairOf f a) a
+
+-- ---- the matrix after it: what lies in the pair's rows turns by the left rotation, what lies in its columns by the right one
 
 abbrev pub lessOf : Format → Float → Float → Float → Float → Float
 lessOf f c s x y = sub f (mul f x c) (mul f y s)
@@ -67,25 +44,18 @@ lessOf f c s x y = sub f (mul f x c) (mul f y s)
 abbrev pub moreOf : Format → Float → Float → Float → Float → Float
 moreOf f c s x y = add f (mul f y c) (mul f x s)
 
-abbrev pub applied12 : Format → Sides → List Float → List Float
-applied12 f r a =
-    r .d1 ∷ zeroF f ∷ lessOf f (r .cr) (r .sr) (a31 a) (a32 a) ∷
-    zeroF f ∷ r .d2 ∷ moreOf f (r .cr) (r .sr) (a31 a) (a32 a) ∷
-    lessOf f (r .cl) (r .sl) (a13 a) (a23 a) ∷ moreOf f (r .cl) (r .sl) (a13 a) (a23 a) ∷ a33 a ∷ []
+module _ (f : Format) (x : Pair) (r : TwoSided) (a : List Float) where
+  -- the number in a row and a column, each at p, q or k
+  abbrev appliedEntry : Place → Place → Float
+  appliedEntry atP atP = r .d1
+  appliedEntry atQ atQ = r .d2
+  appliedEntry atP atQ = zeroF f
+  appliedEntry atQ atP = zeroF f
+  appliedEntry atP atK = lessOf f (r .cl) (r .sl) (entry a (indexP x) (indexK x)) (entry a (indexQ x) (indexK x))
+  appliedEntry atQ atK = moreOf f (r .cl) (r .sl) (entry a (indexP x) (indexK x)) (entry a (indexQ x) (indexK x))
+  appliedEntry atK atP = lessOf f (r .cr) (r .sr) (entry a (indexK x) (indexP x)) (entry a (indexK x) (indexQ x))
+  appliedEntry atK atQ = moreOf f (r .cr) (r .sr) (entry a (indexK x) (indexP x)) (entry a (indexK x) (indexQ x))
+  appliedEntry atK atK = entry a (indexK x) (indexK x)
 
-abbrev pub applied13 : Format → Sides → List Float → List Float
-applied13 f r a =
-    r .d1 ∷ lessOf f (r .cr) (r .sr) (a21 a) (a23 a) ∷ zeroF f ∷
-    lessOf f (r .cl) (r .sl) (a12 a) (a32 a) ∷ a22 a ∷ moreOf f (r .cl) (r .sl) (a12 a) (a32 a) ∷
-    zeroF f ∷ moreOf f (r .cr) (r .sr) (a21 a) (a23 a) ∷ r .d2 ∷ []
-
-abbrev pub applied23 : Format → Sides → List Float → List Float
-applied23 f r a =
-    a11 a ∷ lessOf f (r .cl) (r .sl) (a21 a) (a31 a) ∷ moreOf f (r .cl) (r .sl) (a21 a) (a31 a) ∷
-    lessOf f (r .cr) (r .sr) (a12 a) (a13 a) ∷ r .d1 ∷ zeroF f ∷
-    moreOf f (r .cr) (r .sr) (a12 a) (a13 a) ∷ zeroF f ∷ r .d2 ∷ []
-
-unfoldable pub appliedOf : Format → Pair → Sides → List Float → List Float
-appliedOf f P12 r a = applied12 f r a
-appliedOf f P13 r a = applied13 f r a
-appliedOf f P23 r a = applied23 f r a
+  abbrev pub appliedOf : List Float
+  appliedOf = squareOf 3 (λ (i j : ℕ). appliedEntry (placeIn x i) (placeIn x j))

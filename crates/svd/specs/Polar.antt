@@ -4,7 +4,8 @@ use Rattle.float.specs.Choice.{pick}
 use Rattle.float.specs.Constants.{zeroF, oneF}
 use Rattle.float.specs.Root.{rootOf}
 use Rattle.float.specs.Sign.{magnitudeOf}
-use Rattle.eigen.specs.Rotation.{Turn, rotationOf}
+use Rattle.jacobi.specs.Rotation.{rotationOf}
+use Rattle.jacobi.specs.declared.rotation.Rotation.{Rotation}
 use Rattle.svd.specs.declared.polar.Polar.{Polar}
 use Rattle.svd.specs.declared.polar.TwoSided.{TwoSided}
 
@@ -23,20 +24,7 @@ hypotOf f x y =
 
 -- ---- the polar step on the pair app, aqp, apq, aqq: cosine and sine, and the symmetrised pair
 
-pub record Symmetrised : Type 0 where
-  pub c : Float
-  pub s : Float
-  pub s11 : Float
-  pub s12 : Float
-  pub s22 : Float
-
-abbrev pub polar : Symmetrised → Polar
-polar p = record { c = p .c; s = p .s; s11 = p .s11; s12 = p .s12; s22 = p .s22 }
-
-abbrev pub ofPolar : Polar → Symmetrised
-ofPolar p = record { c = p .c; s = p .s; s11 = p .s11; s12 = p .s12; s22 = p .s22 }
-
-abbrev pub symmetrisedBy : Format → Float → Float → Float → Float → Float → Float → Symmetrised
+abbrev pub symmetrisedBy : Format → Float → Float → Float → Float → Float → Float → Polar
 symmetrisedBy f app aqp apq aqq c s = record {
   c = c;
   s = s;
@@ -46,55 +34,18 @@ symmetrisedBy f app aqp apq aqq c s = record {
 }
 
 -- x and y are the sum of the diagonal and the difference beside it, d their hypot; a pair with d = 0 stays as it is
-unfoldable pub polarBy : Format → Float → Float → Float → Float → Float → Float → Float → Symmetrised
+unfoldable pub polarBy : Format → Float → Float → Float → Float → Float → Float → Float → Polar
 polarBy f app aqp apq aqq x y d =
     pick (eq d (zeroF f)) (symmetrisedBy f app aqp apq aqq (oneF f) (zeroF f))
     (symmetrisedBy f app aqp apq aqq (div f x d) (div f (neg y) d))
 
-unfoldable pub polarOf : Format → Float → Float → Float → Float → Symmetrised
+unfoldable pub polarOf : Format → Float → Float → Float → Float → Polar
 polarOf f app aqp apq aqq = polarBy f app aqp apq aqq (add f app aqq) (sub f aqp apq) (hypotOf f (add f app aqq) (sub f aqp apq))
 
 -- ---- the two-sided rotation: left and right turn, the two diagonal numbers, and the symmetrised pair it came from
 
-pub record Sides : Type 0 where
-  pub cl : Float
-  pub sl : Float
-  pub cr : Float
-  pub sr : Float
-  pub d1 : Float
-  pub d2 : Float
-  pub s11 : Float
-  pub s12 : Float
-  pub s22 : Float
-
-abbrev pub twoSided : Sides → TwoSided
-twoSided r = record {
-  cl = r .cl;
-  sl = r .sl;
-  cr = r .cr;
-  sr = r .sr;
-  d1 = r .d1;
-  d2 = r .d2;
-  s11 = r .s11;
-  s12 = r .s12;
-  s22 = r .s22;
-}
-
-abbrev pub sides : TwoSided → Sides
-sides r = record {
-  cl = r .cl;
-  sl = r .sl;
-  cr = r .cr;
-  sr = r .sr;
-  d1 = r .d1;
-  d2 = r .d2;
-  s11 = r .s11;
-  s12 = r .s12;
-  s22 = r .s22;
-}
-
 -- the left turn is the polar and the Jacobi rotation, one after the other
-abbrev pub composed : Format → Symmetrised → Turn → Sides
+abbrev pub composed : Format → Polar → Rotation → TwoSided
 composed f p j = record {
   cl = sub f (mul f (p .c) (j .c)) (mul f (p .s) (j .s));
   sl = add f (mul f (p .c) (j .s)) (mul f (p .s) (j .c));
@@ -107,7 +58,7 @@ composed f p j = record {
   s22 = p .s22;
 }
 
-unfoldable pub twoSidedOf : Format → Float → Float → Float → Float → Sides
+unfoldable pub twoSidedOf : Format → Float → Float → Float → Float → TwoSided
 unfolding polarOf
 twoSidedOf f app aqp apq aqq =
     let p = polarOf f app aqp apq aqq in

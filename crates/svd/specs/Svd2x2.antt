@@ -1,15 +1,15 @@
 -- The 2x2 call: one two-sided rotation. Definitions only.
 use mathlib.Core.Bool.{Bool, true, false}
-use mathlib.Core.List.{List, [], _∷_}
+use mathlib.Core.List.{List, [], _∷_, _++_}
 use Prim.Native.Nat.{ℕ}
 use lib.Ieee.{Float, Format, neg}
-use Rattle.float.specs.Choice.{pick}
-use Rattle.float.specs.Sign.{allFinite}
+use Rattle.float.specs.Judged.{judgedCall}
 use Rattle.matrix.specs.Answer.{zeros}
 use Rattle.matrix.specs.Places.{at}
 use Rattle.matrix.specs.Square.{mat2}
-use Rattle.svd.specs.Polar.{Sides, twoSidedOf}
+use Rattle.svd.specs.Polar.{twoSidedOf}
 use Rattle.svd.specs.Order.{Factors, order2Of}
+use Rattle.svd.specs.declared.polar.TwoSided.{TwoSided}
 use Rattle.svd.specs.declared.svd2x2.Svd2.{Svd2}
 
 -- the turn by cosine c and sine s as columns (c, -s) and (s, c)
@@ -17,10 +17,10 @@ abbrev pub turn2 : Float → Float → List Float
 turn2 c s = c ∷ neg s ∷ s ∷ c ∷ []
 
 -- A11, A21, A12, A22 are at 0, 1, 2, 3
-abbrev pub sides2Of : Format → List Float → Sides
+abbrev pub sides2Of : Format → List Float → TwoSided
 sides2Of f a = twoSidedOf f (at a 0) (at a 1) (at a 2) (at a 3)
 
-unfoldable pub factors2Of : Sides → Factors
+unfoldable pub factors2Of : TwoSided → Factors
 factors2Of r = order2Of (r .d1) (r .d2) (turn2 (r .cl) (r .sl)) (turn2 (r .cr) (r .sr))
 
 -- ---- the answer
@@ -41,12 +41,11 @@ ofSvd2 r = record { code = r .code; settled = r .settled; values = r .values; u 
 abbrev pub refusedSvd2 : Format → ℕ → Svd2Answer
 refusedSvd2 f k = record { code = k; settled = false; values = zeros f 2; u = zeros f 4; v = zeros f 4 }
 
-unfoldable pub judgedSvd2 : Format → Factors → Svd2Answer
-judgedSvd2 f w =
-    pick (allFinite (w .values))
-    (pick (allFinite (w .u))
-    (pick (allFinite (w .v)) (record { code = 0; settled = true; values = w .values; u = w .u; v = w .v }) (refusedSvd2 f 7))
-    (refusedSvd2 f 7)) (refusedSvd2 f 7)
+-- the answer to a, whose factors are w
+unfoldable pub end2Of : Format → List Float → Factors → Svd2Answer
+end2Of f a w =
+    judgedCall (refusedSvd2 f) a (w .values ++ (w .carried .u ++ w .carried .v))
+    (record { code = 0; settled = true; values = w .values; u = w .carried .u; v = w .carried .v })
 
 unfoldable pub svd2Of : Format → List Float → Svd2Answer
-svd2Of f a = pick (allFinite a) (judgedSvd2 f (factors2Of (sides2Of f a))) (refusedSvd2 f 5)
+svd2Of f a = end2Of f a (factors2Of (sides2Of f a))

@@ -1,64 +1,65 @@
 -- The 3x3 call: states, the run of at most 25 two-sided rotations, and the answer. Definitions only.
 use mathlib.Core.Bool.{Bool, false}
-use mathlib.Core.List.{List}
-use Prim.Native.Nat.{ℕ, _+_}
+use mathlib.Core.List.{List, _++_}
+use Prim.Native.Nat.{ℕ}
 use lib.Ieee.{Float, Format, lt}
-use Rattle.float.specs.Choice.{pick}
 use Rattle.float.specs.Constants.{limitF}
-use Rattle.float.specs.Sign.{allFinite}
+use Rattle.float.specs.Judged.{judgedCall}
 use Rattle.matrix.specs.Answer.{zeros}
 use Rattle.matrix.specs.Square.{mat3, identityOf}
-use Rattle.eigen.specs.Pairs.{turnedOf}
-use Rattle.eigen.specs.Run.{run}
-use Rattle.svd.specs.Polar.{Sides}
-use Rattle.svd.specs.Pairs.{a11, a22, a33, pairOf, sizeOf, sidesOf, appliedOf}
+use Rattle.jacobi.specs.Pairs.{turnedOf}
+use Rattle.jacobi.specs.Run.{run, nothingMade, oneMore}
+use Rattle.jacobi.specs.declared.made.Made.{Made}
+use Rattle.svd.specs.Pairs.{entry, offDiagOf, pairOf, chosenOf, appliedOf}
 use Rattle.svd.specs.Order.{Factors, orderOf}
 use Rattle.svd.specs.declared.svd3x3.Working.{Working}
 use Rattle.svd.specs.declared.svd3x3.Svd3.{Svd3}
 
--- ---- a working state: the matrix, U and V by columns, the rotations made
+-- ---- a working state: the matrix, U and V by columns, what the run made
 
 pub record State : Type 0 where
   pub matrix : List Float
   pub u : List Float
   pub v : List Float
-  pub count : ℕ
+  pub made : Made
 
 abbrev pub working : State → Working
-working s = record { a = mat3 (s .matrix); u = mat3 (s .u); v = mat3 (s .v); count = s .count }
+working s = record { a = mat3 (s .matrix); u = mat3 (s .u); v = mat3 (s .v); made = s .made }
 
 abbrev pub ofWorking : Working → State
-ofWorking w = record { matrix = w .a .«data»; u = w .u .«data»; v = w .v .«data»; count = w .count }
+ofWorking w = record { matrix = w .a .«data»; u = w .u .«data»; v = w .v .«data»; made = w .made }
 
 -- ---- the test: the largest sum of two magnitudes is strictly under the limit
 
 unfoldable pub settledOf : Format → List Float → Bool
-settledOf f a = lt (sizeOf f (pairOf f a) a) (limitF f)
+settledOf f a = lt (offDiagOf f a .size) (limitF f)
 
 -- ---- one rotation, of the largest pair
-
-abbrev pub chosenOf : Format → List Float → Sides
-chosenOf f a = sidesOf f (pairOf f a) a
 
 unfoldable pub stepOf : Format → State → State
 stepOf f s = record {
   matrix = appliedOf f (pairOf f (s .matrix)) (chosenOf f (s .matrix)) (s .matrix);
   u = turnedOf f (pairOf f (s .matrix)) (chosenOf f (s .matrix) .cl) (chosenOf f (s .matrix) .sl) (s .u);
   v = turnedOf f (pairOf f (s .matrix)) (chosenOf f (s .matrix) .cr) (chosenOf f (s .matrix) .sr) (s .v);
-  count = s .count + 1;
+  made = oneMore (s .made);
 }
 
-unfoldable pub workOf : Format → ℕ → State → State
-workOf f k s = run (stepOf f) (λ (s : State). settledOf f (s .matrix)) k s
+-- ---- at most k rotations, and the last state of a call's 25
+
+unfoldable pub runOf : Format → ℕ → State → State
+runOf f k s = run (stepOf f) (λ (s : State). settledOf f (s .matrix)) k s
 
 abbrev pub startOf : Format → List Float → State
-startOf f a = record { matrix = a; u = identityOf f 3; v = identityOf f 3; count = 0 }
+startOf f a = record { matrix = a; u = identityOf f 3; v = identityOf f 3; made = nothingMade }
+
+abbrev pub lastOf : Format → List Float → State
+lastOf f a = runOf f 25 (startOf f a)
 
 -- ---- the answer
 
 pub record SvdAnswer : Type 0 where
   pub code : ℕ
-  pub count : ℕ
+  pub made : Made
   pub settled : Bool
   pub values : List Float
   pub u : List Float
@@ -68,7 +69,7 @@ pub record SvdAnswer : Type 0 where
 abbrev pub svd3 : SvdAnswer → Svd3
 svd3 r = record {
   code = r .code;
-  count = r .count;
+  made = r .made;
   settled = r .settled;
   values = r .values;
   u = mat3 (r .u);
@@ -79,7 +80,7 @@ svd3 r = record {
 abbrev pub ofSvd3 : Svd3 → SvdAnswer
 ofSvd3 r = record {
   code = r .code;
-  count = r .count;
+  made = r .made;
   settled = r .settled;
   values = r .values;
   u = r .u .«data»;
@@ -87,23 +88,31 @@ ofSvd3 r = record {
   worked = r .worked .«data»;
 }
 
+-- refused: all numbers +0, no rotation, not settled
 abbrev pub refusedSvd : Format → ℕ → SvdAnswer
-refusedSvd f k = record { code = k; count = 0; settled = false; values = zeros f 3; u = zeros f 9; v = zeros f 9; worked = zeros f 9 }
+refusedSvd f k = record { code = k; made = nothingMade; settled = false; values = zeros f 3; u = zeros f 9; v = zeros f 9; worked = zeros f 9 }
 
 unfoldable pub factorsOf : State → Factors
-factorsOf s = orderOf (a11 (s .matrix)) (a22 (s .matrix)) (a33 (s .matrix)) (s .u) (s .v)
+factorsOf s = orderOf (entry (s .matrix) 0 0) (entry (s .matrix) 1 1) (entry (s .matrix) 2 2) (s .u) (s .v)
 
--- 7 where a number of the answer is not finite; the values are magnitudes of numbers of the matrix
-unfoldable pub judgedSvd : Format → State → Factors → SvdAnswer
-judgedSvd f s w =
-    pick (allFinite (s .matrix))
-    (pick (allFinite (w .u))
-    (pick (allFinite (w .v))
-    (record { code = 0; count = s .count; settled = settledOf f (s .matrix); values = w .values; u = w .u; v = w .v; worked = s .matrix })
-    (refusedSvd f 7)) (refusedSvd f 7)) (refusedSvd f 7)
+-- the numbers worked out: the matrix, U and V. The values are magnitudes of numbers of the matrix.
+abbrev pub numbersOf : State → List Float
+numbersOf s = s .matrix ++ (factorsOf s .carried .u ++ factorsOf s .carried .v)
 
-unfoldable pub endOf : Format → State → SvdAnswer
-endOf f s = judgedSvd f s (factorsOf s)
+abbrev pub answerOf : Format → State → SvdAnswer
+answerOf f s = record {
+  code = 0;
+  made = s .made;
+  settled = settledOf f (s .matrix);
+  values = factorsOf s .values;
+  u = factorsOf s .carried .u;
+  v = factorsOf s .carried .v;
+  worked = s .matrix;
+}
+
+-- the answer to a, whose last state is s
+unfoldable pub endOf : Format → List Float → State → SvdAnswer
+endOf f a s = judgedCall (refusedSvd f) a (numbersOf s) (answerOf f s)
 
 unfoldable pub svdOf : Format → List Float → SvdAnswer
-svdOf f a = pick (allFinite a) (endOf f (workOf f 25 (startOf f a))) (refusedSvd f 5)
+svdOf f a = endOf f a (lastOf f a)

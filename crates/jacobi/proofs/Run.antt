@@ -4,7 +4,7 @@ use mathlib.Core.Bool.{Bool, true, false}
 use mathlib.Core.Logic.{_⊎_, inl, inr}
 use Prim.Native.Nat.{ℕ, zero, suc, _+_, _-_, _≤_, _<_}
 use native.Mathlib.Omega.{arith}
-use Rattle.eigen.specs.Run.{runFrom, run, after, Ran}
+use Rattle.jacobi.specs.Run.{runFrom, run, after, Ran}
 
 module _ {S : Type 0} (step : S → S) (done : S → Bool) where
   -- ---- how it goes on and where it stops

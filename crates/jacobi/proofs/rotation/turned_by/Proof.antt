@@ -1,7 +1,7 @@
 -- The root is the one that the definition names.
 use borrow.Author.Needs.{needs}
-use Rattle.eigen.proofs.rotation.turned_by.Statement.{statement}
-use Rattle.eigen.proofs.rotation.turned_by.Tie as tie
+use Rattle.jacobi.proofs.rotation.turned_by.Statement.{statement}
+use Rattle.jacobi.proofs.rotation.turned_by.Tie as tie
 
 returns : tie.Need-returns
 returns c = rw (c .root .ensures .is)

@@ -1,6 +1,6 @@
 -- Each return is one outcome of the comparison.
-use Rattle.eigen.proofs.rotation.larger.Statement.{statement}
-use Rattle.eigen.proofs.rotation.larger.Tie as tie
+use Rattle.jacobi.proofs.rotation.larger.Statement.{statement}
+use Rattle.jacobi.proofs.rotation.larger.Tie as tie
 
 returns : tie.Need-returns
 returns c = simp (c .if1 .taken)

@@ -1,4 +1,4 @@
-// The choice of a Jacobi rotation. Real is f64 (float::width).
+// The choice of a Jacobi rotation (dense3x3/eigen.rs, lines 292 to 329). Real is f64 (float::width).
 use float::root::root;
 use float::sign::is_finite;
 use float::sign::magnitude;
@@ -8,7 +8,7 @@ use float::width::HALF_ROOT;
 use float::width::Real;
 ghost use mathlib.Core.Path.{_≡_};
 ghost use Rattle.float.specs.Width.{F};
-ghost use Rattle.eigen.specs.Rotation.{rotation, largerOf, tangentOf, turnBy, rotationOf};
+ghost use Rattle.jacobi.specs.Rotation.{largerOf, tangentOf, turnBy, rotationOf};
 
 // Cosine, sine and tangent.
 pub struct Rotation {
@@ -36,7 +36,7 @@ fn tangent(theta: Real) -> Real
 }
 
 fn turned_by(t: Real) -> Rotation
-    ensures { λ r. ⌜ r ≡ rotation (turnBy F t) ⌝ }
+    ensures { λ r. ⌜ r ≡ turnBy F t ⌝ }
 {
     let c = 1.0 / root(1.0 + t * t);
     Rotation { c, s: t * c, t }
@@ -44,7 +44,7 @@ fn turned_by(t: Real) -> Rotation
 
 // The rotation that takes apq away, between the diagonal numbers app and aqq.
 pub fn compute_jacobi_rotation(apq: Real, app: Real, aqq: Real) -> Rotation
-    ensures { λ r. ⌜ r ≡ rotation (rotationOf F apq app aqq) ⌝ }
+    ensures { λ r. ⌜ r ≡ rotationOf F apq app aqq ⌝ }
 {
     if apq == 0.0 {
         return Rotation {

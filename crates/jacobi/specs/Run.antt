@@ -2,7 +2,8 @@
 use mathlib.Core.Path.{_≡_}
 use mathlib.Core.Bool.{Bool, true, false}
 use mathlib.Core.Logic.{_⊎_}
-use Prim.Native.Nat.{ℕ, suc, zero, _≤_, _<_}
+use Prim.Native.Nat.{ℕ, suc, zero, _+_, _≤_, _<_}
+use Rattle.jacobi.specs.declared.made.Made.{Made}
 
 module _ {S : Type 0} (step : S → S) (done : S → Bool) where
   -- b says whether s is done. It is an argument to match on, so that no step is worked out that is not made.
@@ -26,3 +27,12 @@ module _ {S : Type 0} (step : S → S) (done : S → Bool) where
     pub stands : r ≡ after n s
     pub earlier : (j : ℕ) → j < n → done (after j s) ≡ false
     pub ended : (n ≡ k) ⊎ (done r ≡ true)
+
+-- ---- what a run of rotations made
+
+abbrev pub nothingMade : Made
+nothingMade = record { count = 0 }
+
+-- with one rotation more
+abbrev pub oneMore : Made → Made
+oneMore m = record { count = m .count + 1 }

@@ -1,8 +1,8 @@
 -- Each return is one outcome of the test of theta's square, and the calls answer by the definition's names.
 use borrow.Author.Needs.{needs}
-use Rattle.eigen.specs.Rotation.{tangentOf}
-use Rattle.eigen.proofs.rotation.tangent.Statement.{statement}
-use Rattle.eigen.proofs.rotation.tangent.Tie as tie
+use Rattle.jacobi.specs.Rotation.{tangentOf}
+use Rattle.jacobi.proofs.rotation.tangent.Statement.{statement}
+use Rattle.jacobi.proofs.rotation.tangent.Tie as tie
 
 returns : tie.Need-returns
 unfolding tangentOf

@@ -11,7 +11,8 @@ use Rattle.float.specs.Constants.{zeroF, twoF, epsilonF}
 use Rattle.float.specs.Sign.{magnitudeOf, finite}
 use Rattle.float.proofs.Negation.{Rel, flip, sub-rel, magnitude-rel, eq-rel, zero-rel, exact, mul-flip, div-flip}
 use Rattle.float.proofs.Zeros.{finite-of-eq, zero-level}
-use Rattle.eigen.specs.Rotation.{Turn, largerOf, settledPair, tinyDiagonal, levelDiagonal, thetaOf, tangentOf, noTurn, evenTurn, turnBy, rotationOf}
+use Rattle.jacobi.specs.Rotation.{largerOf, isGone, tinyDiagonal, levelDiagonal, thetaOf, tangentOf, noTurn, evenTurn, turnBy, rotationOf}
+use Rattle.jacobi.specs.declared.rotation.Rotation.{Rotation}
 
 -- ---- a difference that is zero is level
 
@@ -28,23 +29,23 @@ unfolding finite
 no-infinite true s h = false≢true h
 no-infinite false s h = false≢true h
 
-level-of-zero : (f : Format) (p a q : Float) → eq (sub f q a) (zeroF f) ≡ true → finite (sub f q a) ≡ true → tinyDiagonal f p a q ≡ false → levelDiagonal f p a q ≡ true
+level-of-zero : (f : Format) (a q : Float) → eq (sub f q a) (zeroF f) ≡ true → finite (sub f q a) ≡ true → tinyDiagonal f a q ≡ false → levelDiagonal f a q ≡ true
 unfolding sub neg add finite magnitudeOf
-level-of-zero f p nan nan h i = absurd (false≢true i)
-level-of-zero f p nan (inf t) h i = absurd (false≢true i)
-level-of-zero f p nan (fin t n d) h i = absurd (false≢true i)
-level-of-zero f p (inf s) nan h i = absurd (false≢true i)
-level-of-zero f p (inf s) (inf t) h i = absurd (no-infinite (Bool·beq t (not s)) t i)
-level-of-zero f p (inf s) (fin t n d) h i = absurd (false≢true i)
-level-of-zero f p (fin s m e) nan h i = absurd (false≢true i)
-level-of-zero f p (fin s m e) (inf t) h i = absurd (false≢true i)
-level-of-zero f p (fin s m e) (fin t n d) h i =
+level-of-zero f nan nan h i = absurd (false≢true i)
+level-of-zero f nan (inf t) h i = absurd (false≢true i)
+level-of-zero f nan (fin t n d) h i = absurd (false≢true i)
+level-of-zero f (inf s) nan h i = absurd (false≢true i)
+level-of-zero f (inf s) (inf t) h i = absurd (no-infinite (Bool·beq t (not s)) t i)
+level-of-zero f (inf s) (fin t n d) h i = absurd (false≢true i)
+level-of-zero f (fin s m e) nan h i = absurd (false≢true i)
+level-of-zero f (fin s m e) (inf t) h i = absurd (false≢true i)
+level-of-zero f (fin s m e) (fin t n d) h i =
     let x = sub f (fin t n d) (fin s m e) in
     of-larger (λ (D : Float). lt D (epsilonF f) ≡ false → lt (magnitudeOf x) (mul f (epsilonF f) D) ≡ true) m e n d (λ k g. zero-level f x k g h i)
 
 -- ---- three tests, and what stands behind them
 
-by-tests : {t t' u u' v v' : Bool} (x y w w' : Turn) → t ≡ t' → u ≡ u' → v ≡ v' → (t ≡ false → u ≡ false → v ≡ false → w ≡ w')
+by-tests : {t t' u u' v v' : Bool} (x y w w' : Rotation) → t ≡ t' → u ≡ u' → v ≡ v' → (t ≡ false → u ≡ false → v ≡ false → w ≡ w')
     → pick t x (pick u y (pick v y w)) ≡ pick t' x (pick u' y (pick v' y w'))
 by-tests {t} {t'} {u} {u'} {v} {v'} x y w w' p q r h = rw (← p, ← q, ← r) (go t u v h)
   where
@@ -56,33 +57,33 @@ by-tests {t} {t'} {u} {u'} {v} {v'} x y w w' p q r h = rw (← p, ← q, ← r) 
 
 -- ---- theta
 
-not-zero : (f : Format) (p a q : Float) → tinyDiagonal f p a q ≡ false → levelDiagonal f p a q ≡ false → eq (sub f q a) (zeroF f) ≡ false
-not-zero f p a q u v = go (eq (sub f q a) (zeroF f)) refl
+not-zero : (f : Format) (a q : Float) → tinyDiagonal f a q ≡ false → levelDiagonal f a q ≡ false → eq (sub f q a) (zeroF f) ≡ false
+not-zero f a q u v = go (eq (sub f q a) (zeroF f)) refl
   where
     go : (t : Bool) → eq (sub f q a) (zeroF f) ≡ t → t ≡ false
-    go true e = sym (level-of-zero f p a q e (finite-of-eq f (sub f q a) e) u) ∙ v
+    go true e = sym (level-of-zero f a q e (finite-of-eq f (sub f q a) e) u) ∙ v
     go false e = refl
 
 module _ (f : Format) {b : Bool} {p p' a a' q q' : Float} (P : Rel b p p') (A : Rel b a a') (Q : Rel b q q') where
-  theta-same : settledPair f p a q ≡ false → tinyDiagonal f p a q ≡ false → levelDiagonal f p a q ≡ false → thetaOf f p a q ≡ thetaOf f p' a' q'
+  theta-same : isGone f p ≡ false → tinyDiagonal f a q ≡ false → levelDiagonal f a q ≡ false → thetaOf f p a q ≡ thetaOf f p' a' q'
   theta-same t u v =
-      let x : sub f q' a' ≡ flip b (sub f q a) = exact f (sub-rel f Q A) (not-zero f p a q u v) in
+      let x : sub f q' a' ≡ flip b (sub f q a) = exact f (sub-rel f Q A) (not-zero f a q u v) in
       let y : mul f p' (twoF f) ≡ flip b (mul f p (twoF f)) = ap (λ (z : Float). mul f z (twoF f)) (exact f P t) ∙ mul-flip b f p (twoF f) in
       sym (cc (x, y, div-flip b f (sub f q a) (mul f p (twoF f))))
 
   -- ---- the choice
 
-  settled-same : settledPair f p a q ≡ settledPair f p' a' q'
-  settled-same = eq-rel P (zero-rel b f)
+  gone-same : isGone f p ≡ isGone f p'
+  gone-same = eq-rel P (zero-rel b f)
 
-  tiny-same : tinyDiagonal f p a q ≡ tinyDiagonal f p' a' q'
+  tiny-same : tinyDiagonal f a q ≡ tinyDiagonal f a' q'
   tiny-same = cc (magnitude-rel A, magnitude-rel Q)
 
-  level-same : levelDiagonal f p a q ≡ levelDiagonal f p' a' q'
+  level-same : levelDiagonal f a q ≡ levelDiagonal f a' q'
   level-same = cc (magnitude-rel A, magnitude-rel Q, magnitude-rel (sub-rel f Q A))
 
   pub rotation-same : rotationOf f p a q ≡ rotationOf f p' a' q'
   unfolding rotationOf
   rotation-same =
-      by-tests (noTurn f) (evenTurn f) (turnBy f (tangentOf f (thetaOf f p a q))) (turnBy f (tangentOf f (thetaOf f p' a' q'))) settled-same tiny-same level-same
+      by-tests (noTurn f) (evenTurn f) (turnBy f (tangentOf f (thetaOf f p a q))) (turnBy f (tangentOf f (thetaOf f p' a' q'))) gone-same tiny-same level-same
       (λ t u v. ap (λ (z : Float). turnBy f (tangentOf f z)) (theta-same t u v))

@@ -5,38 +5,26 @@ use Rattle.float.specs.Choice.{pick}
 use Rattle.float.specs.Constants.{zeroF, oneF, twoF, halfF, epsilonF, halfRootF}
 use Rattle.float.specs.Root.{rootOf}
 use Rattle.float.specs.Sign.{magnitudeOf, signumOf, finite}
-use Rattle.eigen.specs.declared.rotation.Rotation.{Rotation}
+use Rattle.jacobi.specs.declared.rotation.Rotation.{Rotation}
 
--- cosine, sine and tangent
-pub record Turn : Type 0 where
-  pub c : Float
-  pub s : Float
-  pub t : Float
-
-abbrev pub rotation : Turn → Rotation
-rotation r = record { c = r .c; s = r .s; t = r .t }
-
-abbrev pub turn : Rotation → Turn
-turn r = record { c = r .c; s = r .s; t = r .t }
-
--- ---- the tests, on (apq, app, aqq)
+-- ---- the tests
 
 abbrev pub largerOf : Float → Float → Float
 largerOf a b = pick (lt b a) a b
 
 -- the larger diagonal magnitude
-abbrev pub diagonalOf : Float → Float → Float → Float
-diagonalOf apq app aqq = largerOf (magnitudeOf app) (magnitudeOf aqq)
+abbrev pub diagonalOf : Float → Float → Float
+diagonalOf app aqq = largerOf (magnitudeOf app) (magnitudeOf aqq)
 
 -- nothing to take away
-abbrev pub settledPair : Format → Float → Float → Float → Bool
-settledPair f apq app aqq = eq apq (zeroF f)
+abbrev pub isGone : Format → Float → Bool
+isGone f apq = eq apq (zeroF f)
 
-abbrev pub tinyDiagonal : Format → Float → Float → Float → Bool
-tinyDiagonal f apq app aqq = lt (diagonalOf apq app aqq) (epsilonF f)
+abbrev pub tinyDiagonal : Format → Float → Float → Bool
+tinyDiagonal f app aqq = lt (diagonalOf app aqq) (epsilonF f)
 
-abbrev pub levelDiagonal : Format → Float → Float → Float → Bool
-levelDiagonal f apq app aqq = lt (magnitudeOf (sub f aqq app)) (mul f (epsilonF f) (diagonalOf apq app aqq))
+abbrev pub levelDiagonal : Format → Float → Float → Bool
+levelDiagonal f app aqq = lt (magnitudeOf (sub f aqq app)) (mul f (epsilonF f) (diagonalOf app aqq))
 
 -- ---- the tangent
 
@@ -55,20 +43,20 @@ cosineOf f t = div f (oneF f) (rootOf f (add f (oneF f) (mul f t t)))
 
 -- ---- the three rotations, and the choice
 
-abbrev pub noTurn : Format → Turn
+abbrev pub noTurn : Format → Rotation
 noTurn f = record { c = oneF f; s = zeroF f; t = zeroF f }
 
 -- 45 degrees
-abbrev pub evenTurn : Format → Turn
+abbrev pub evenTurn : Format → Rotation
 evenTurn f = record { c = halfRootF f; s = halfRootF f; t = oneF f }
 
-abbrev pub turnBy : Format → Float → Turn
+abbrev pub turnBy : Format → Float → Rotation
 turnBy f t = record { c = cosineOf f t; s = mul f t (cosineOf f t); t = t }
 
-unfoldable pub rotationOf : Format → Float → Float → Float → Turn
+unfoldable pub rotationOf : Format → Float → Float → Float → Rotation
 unfolding tangentOf
 rotationOf f apq app aqq =
-    pick (settledPair f apq app aqq) (noTurn f)
-    (pick (tinyDiagonal f apq app aqq) (evenTurn f)
-    (pick (levelDiagonal f apq app aqq) (evenTurn f)
+    pick (isGone f apq) (noTurn f)
+    (pick (tinyDiagonal f app aqq) (evenTurn f)
+    (pick (levelDiagonal f app aqq) (evenTurn f)
     (turnBy f (tangentOf f (thetaOf f apq app aqq)))))

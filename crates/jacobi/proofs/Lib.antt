@@ -1,0 +1,4 @@
+pub mod Chosen
+pub mod Negated
+pub mod Run
+pub mod Unique

@@ -1,0 +1,13 @@
+-- The branch makes the definition's comparison.
+use borrow.Author.Needs.{needs}
+use Rattle.jacobi.proofs.pairs.larger.Statement.{statement}
+use Rattle.jacobi.proofs.pairs.larger.Tie as tie
+
+returns : tie.Need-returns
+returns c = rw (c .if1 .taken)
+
+returns-2 : tie.Need-returns-2
+returns-2 c = rw (c .if1 .left)
+
+pub larger-spec : {M : Type 1} → statement M
+larger-spec = tie.close (tie.spec returns returns-2)

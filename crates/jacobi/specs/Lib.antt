@@ -1,0 +1,4 @@
+pub mod Rotation
+pub mod Pairs
+pub mod Run
+pub mod Order
