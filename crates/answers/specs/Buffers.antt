@@ -20,6 +20,6 @@ abbrev pub room : Format → ℕ
 room f = batch f * requestSize f
 
 -- a write moves no more than it was handed
-abbrev pub Within : ℕ → Write → Type 0
-Within most (Moved n) = n ≤ most
-Within most Failed = Unit {0}
+abbrev pub AtMost : ℕ → Write → Type 0
+AtMost most (Moved n) = n ≤ most
+AtMost most Failed = Unit {0}

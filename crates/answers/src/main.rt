@@ -23,10 +23,10 @@ ghost use Rattle.answers.specs.Buffers.{Large, batch, room};
 // The bytes of as many requests as a large buffer holds answers to.
 const ROOM: usize = 65536 / ANSWER_SIZE * REQUEST_SIZE;
 
-// A proved loop has to end, and nothing says that the input does: the turns count down from a number that no run uses up.
-const TURNS: u64 = 9007199254740992;
+// A proved loop has to end, and nothing says that the input does: the rounds count down from a number that no run uses up.
+const ROUNDS: u64 = 9007199254740992;
 
-// How a turn ends: whether another follows, how many bytes of a request are kept for it, and how many answers are written.
+// How a round ends: whether another follows, how many bytes of a request are kept for it, and how many answers are written.
 struct Ended {
     more: bool,
     kept: usize,
@@ -101,7 +101,7 @@ fn last(buf: &[u8], have: usize, written: u64)
 }
 
 // Reads once, behind the `have` bytes that are kept, and answers what came.
-fn turn(buf: &mut [u8], out: &mut [u8], have: usize, written: u64) -> Ended
+fn round(buf: &mut [u8], out: &mut [u8], have: usize, written: u64) -> Ended
     requires { ⌜ Large (now buf) × Large (now out) × (have < requestSize F) × (written < 9223372036854775808) ⌝ }
     ensures { λ t. ⌜ (t .kept < requestSize F) × (t .written ≤ written + batch F) ⌝ }
 {
@@ -130,15 +130,15 @@ fn main() {
     let mut out = io::large_buffer();
     let mut have = 0usize;
     let mut written = 0u64;
-    let mut turns = TURNS;
-    while turns > 0 {
-        let t = turn(&mut buf, &mut out, have, written);
+    let mut rounds = ROUNDS;
+    while rounds > 0 {
+        let t = round(&mut buf, &mut out, have, written);
         if !t.more {
             return;
         }
         have = t.kept;
         written = t.written;
-        turns -= 1;
+        rounds -= 1;
     }
     say(b"answers: too many reads: ", written);
 }

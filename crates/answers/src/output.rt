@@ -4,7 +4,7 @@ use libc::STDERR_FILENO;
 use libc::STDOUT_FILENO;
 ghost use Prim.Native.Nat.{_≤_};
 ghost use lib.ListN.{length};
-ghost use Rattle.answers.specs.Buffers.{Within};
+ghost use Rattle.answers.specs.Buffers.{AtMost};
 
 // So often a write is made again before it counts as failed: a proved loop has to end.
 const TRIES: u64 = 9007199254740992;
@@ -24,7 +24,7 @@ enum Write {
 
 // One write.
 fn once(out: &[u8]) -> Write
-    ensures { λ w. ⌜ Within (length (now (out .entry))) w ⌝ }
+    ensures { λ w. ⌜ AtMost (length (now (out .entry))) w ⌝ }
 {
     let got = libc::write(STDOUT_FILENO, out);
     if got > 0 {

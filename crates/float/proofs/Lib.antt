@@ -3,7 +3,7 @@ pub mod Branches
 pub mod Choice
 pub mod Powers
 pub mod Squares
-pub mod Turns
+pub mod Loops
 pub mod Exponent
 pub mod Patterns
 pub mod Finite

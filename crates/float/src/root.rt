@@ -36,7 +36,7 @@ pub struct Whole {
     pub left: Bits,
 }
 
-// The whole root of m * 2^DIGITS, one binary digit a turn: `left` takes the next two digits of m * 2^DIGITS, of which `rest` holds
+// The whole root of m * 2^DIGITS, one binary digit a pass: `left` takes the next two digits of m * 2^DIGITS, of which `rest` holds
 // those still to come, and the digit is 1 where the square of 2q + 1 still fits.
 fn whole_root(m: Bits) -> Whole
     requires { ⌜ m < 4 * hid F ⌝ }

@@ -23,11 +23,12 @@ use Rattle.svd.specs.Svd2x2.{Svd2Answer, sides2Of, factors2Of, refusedSvd2, jud
 use Rattle.svd.specs.Svd3x3.{SvdAnswer, factorsOf, refusedSvd, judgedSvd, svdOf}
 use Rattle.svd.specs.Svd3x3 as svd3
 use Rattle.kinds.specs.Slots.{nineUsed, threeUsed}
-use Rattle.kinds.specs.Work.{KindAnswer, firstOf, refusedKind, fromEigen2, fromEigen3, fromSvd2, fromSvd3, fromFactor, fromSolved, workOf}
+use Rattle.kinds.specs.Work.{firstOf, refusedKind, fromEigen2, fromEigen3, fromSvd2, fromSvd3, fromFactor, fromSolved, workOf}
+use Rattle.kinds.specs.declared.work.Worked.{Worked}
 
 -- ---- kind by kind
 
-pub each-kind : (P : KindAnswer → Type 0) (f : Format) (kind : ℕ) (nine three : List Float)
+pub each-kind : (P : Worked → Type 0) (f : Format) (kind : ℕ) (nine three : List Float)
     → (kind ≡ 1 → P (fromEigen2 f (eigen2Of f (firstOf 3 nine))))
     → (kind ≡ 2 → P (fromEigen3 f (eigenOf f (firstOf 6 nine))))
     → (kind ≡ 3 → P (fromSvd2 f (svd2Of f (firstOf 4 nine))))
@@ -75,7 +76,7 @@ solved-ends f s n r x Q h k m =
 
 -- ---- three values, nine numbers left and nine right
 
-abbrev pub Sized : KindAnswer → Type 0
+abbrev pub Sized : Worked → Type 0
 Sized w = (length (w .values) ≡ 3) × (length (w .left) ≡ 9) × (length (w .right) ≡ 9)
 
 factor-sized : (f : Format) (s : ℕ) (r : FactorAnswer) → Sized (fromFactor f s r)
@@ -90,7 +91,7 @@ work-sized f kind nine three =
 
 -- ---- with a code other than 0: only the code and a pivot's number
 
-abbrev pub Clear : Format → KindAnswer → Type 0
+abbrev pub Clear : Format → Worked → Type 0
 Clear f w = (w .code ≡ 0 → ⊥) → w ≡ refusedKind f (w .code) (w .count)
 
 eigen2-clear : (f : Format) (a : List Float) → Clear f (fromEigen2 f (eigen2Of f a))
@@ -199,7 +200,7 @@ judged-five l r h =
 
 factor-five : (f : Format) (s : ℕ) (r : FactorAnswer) → NotFive (r .code) → NotFive (fromFactor f s r .code)
 unfolding fromFactor
-factor-five f s r h = chosen (λ (w : KindAnswer). NotFive (w .code)) (eqb (r .code) 0) _ _ (not-0 refl) h
+factor-five f s r h = chosen (λ (w : Worked). NotFive (w .code)) (eqb (r .code) 0) _ _ (not-0 refl) h
 
 module _ (f : Format) (a : List Float) (e : allFinite a ≡ true) where
   eigen2-five : NotFive (eigen2Of f a .code)
@@ -256,7 +257,7 @@ module _ (f : Format) (a : List Float) (e : allFinite a ≡ true) where
 pub work-five : (f : Format) (kind : ℕ) (nine three : List Float) → allFinite (firstOf (nineUsed kind) nine) ≡ true → allFinite (firstOf (threeUsed kind) three) ≡ true
     → NotFive (workOf f kind nine three .code)
 work-five f kind nine three h k =
-    each-kind (λ (w : KindAnswer). NotFive (w .code)) f kind nine three
+    each-kind (λ (w : Worked). NotFive (w .code)) f kind nine three
     (λ e. eigen2-five f (firstOf 3 nine) (rw e at h))
     (λ e. eigen-five f (firstOf 6 nine) (rw e at h))
     (λ e. svd2-five f (firstOf 4 nine) (rw e at h))

@@ -1,4 +1,5 @@
--- What each kind answers: the one place that hands numbers to a kernel and takes its values back. Definitions only.
+-- What each kind answers: the one place that hands numbers to a kernel and takes its values back. `Worked` is a kernel's answer as a record has it: three values, nine
+-- numbers left and nine right. Definitions only.
 use mathlib.Core.Bool.{Bool, true, false}
 use mathlib.Core.List.{List}
 use Prim.Native.Nat.{ℕ}
@@ -15,18 +16,6 @@ use Rattle.eigen.specs.Eigen3x3.{EigenAnswer, eigenOf}
 use Rattle.svd.specs.Svd2x2.{Svd2Answer, svd2Of}
 use Rattle.svd.specs.Svd3x3.{SvdAnswer, svdOf}
 use Rattle.kinds.specs.declared.work.Worked.{Worked}
-
--- a kernel's answer as a record has it: three values, nine numbers left and nine right
-pub record KindAnswer : Type 0 where
-  pub code : ℕ
-  pub count : ℕ
-  pub settled : ℕ
-  pub values : List Float
-  pub left : List Float
-  pub right : List Float
-
-abbrev pub worked : KindAnswer → Worked
-worked w = record { code = w .code; count = w .count; settled = w .settled; values = w .values; left = w .left; right = w .right }
 
 -- ---- numbers in and out
 
@@ -48,12 +37,12 @@ abbrev pub doneMark : ℕ → ℕ
 doneMark code = markOf (eqb code 0)
 
 -- refused: only the code and a pivot's number
-abbrev pub refusedKind : Format → ℕ → ℕ → KindAnswer
+abbrev pub refusedKind : Format → ℕ → ℕ → Worked
 refusedKind f code pivot = record { code = code; count = pivot; settled = 0; values = zeros f 3; left = zeros f 9; right = zeros f 9 }
 
 -- ---- from the kernels' answers
 
-abbrev pub fromEigen2 : Format → Eigen2Answer → KindAnswer
+abbrev pub fromEigen2 : Format → Eigen2Answer → Worked
 fromEigen2 f r = record {
   code = r .code;
   count = 0;
@@ -63,17 +52,17 @@ fromEigen2 f r = record {
   right = zeros f 9;
 }
 
-abbrev pub fromEigen3 : Format → EigenAnswer → KindAnswer
+abbrev pub fromEigen3 : Format → EigenAnswer → Worked
 fromEigen3 f r = record {
   code = r .code;
-  count = r .count;
+  count = r .made .count;
   settled = markOf (r .settled);
   values = padded f 3 3 (r .values);
   left = padded f 9 9 (r .vectors);
   right = zeros f 9;
 }
 
-abbrev pub fromSvd2 : Format → Svd2Answer → KindAnswer
+abbrev pub fromSvd2 : Format → Svd2Answer → Worked
 fromSvd2 f r = record {
   code = r .code;
   count = 0;
@@ -83,10 +72,10 @@ fromSvd2 f r = record {
   right = padded f 9 4 (r .v);
 }
 
-abbrev pub fromSvd3 : Format → SvdAnswer → KindAnswer
+abbrev pub fromSvd3 : Format → SvdAnswer → Worked
 fromSvd3 f r = record {
   code = r .code;
-  count = r .count;
+  count = r .made .count;
   settled = markOf (r .settled);
   values = padded f 3 3 (r .values);
   left = padded f 9 9 (r .u);
@@ -94,14 +83,14 @@ fromSvd3 f r = record {
 }
 
 -- a factor of s numbers; on refusal its early writes are no answer
-abbrev pub wholeFactor : Format → List Float → KindAnswer
+abbrev pub wholeFactor : Format → List Float → Worked
 wholeFactor f left = record { code = 0; count = 0; settled = 1; values = zeros f 3; left = left; right = zeros f 9 }
 
-unfoldable pub fromFactor : Format → ℕ → FactorAnswer → KindAnswer
+unfoldable pub fromFactor : Format → ℕ → FactorAnswer → Worked
 fromFactor f s r = pick (eqb (r .code) 0) (wholeFactor f (padded f 9 s (r .factor))) (refusedKind f (r .code) (r .pivot))
 
 -- a factor of s numbers and a solution of n
-abbrev pub fromSolved : Format → ℕ → ℕ → SolvedAnswer → KindAnswer
+abbrev pub fromSolved : Format → ℕ → ℕ → SolvedAnswer → Worked
 fromSolved f s n r = record {
   code = r .code;
   count = r .pivot;
@@ -113,7 +102,7 @@ fromSolved f s n r = record {
 
 -- ---- the kinds; 3 for any other
 
-unfoldable pub workOf : Format → ℕ → List Float → List Float → KindAnswer
+unfoldable pub workOf : Format → ℕ → List Float → List Float → Worked
 workOf f kind nine three =
     pick (eqb kind 1) (fromEigen2 f (eigen2Of f (firstOf 3 nine)))
     (pick (eqb kind 2) (fromEigen3 f (eigenOf f (firstOf 6 nine)))

@@ -27,7 +27,7 @@ ghost use Rattle.eigen.specs.Eigen2x2.{ofEigen2};
 ghost use Rattle.eigen.specs.Eigen3x3.{ofEigen3};
 ghost use Rattle.svd.specs.Svd2x2.{ofSvd2};
 ghost use Rattle.svd.specs.Svd3x3.{ofSvd3};
-ghost use Rattle.kinds.specs.Work.{worked, firstOf, padded, markOf, doneMark, refusedKind, fromEigen2, fromEigen3, fromSvd2, fromSvd3, wholeFactor, fromFactor, fromSolved, workOf};
+ghost use Rattle.kinds.specs.Work.{firstOf, padded, markOf, doneMark, refusedKind, fromEigen2, fromEigen3, fromSvd2, fromSvd3, wholeFactor, fromFactor, fromSolved, workOf};
 
 // Three values, nine numbers left and nine right, with code, count and mark.
 pub struct Worked {
@@ -53,7 +53,7 @@ fn done_mark(code: u8) -> u8
 
 // Only a code and a pivot's number.
 pub fn refused(code: u8, pivot: u8) -> Worked
-    ensures { λ w. ⌜ w ≡ worked (refusedKind F code pivot) ⌝ }
+    ensures { λ w. ⌜ w ≡ refusedKind F code pivot ⌝ }
 {
     Worked {
         code,
@@ -81,7 +81,7 @@ fn all9(m: Mat3) -> [Real; 9]
 }
 
 fn from_eigen2(r: Eigen2) -> Worked
-    ensures { λ w. ⌜ w ≡ worked (fromEigen2 F (ofEigen2 r)) ⌝ }
+    ensures { λ w. ⌜ w ≡ fromEigen2 F (ofEigen2 r) ⌝ }
 {
     let v = r.values;
     let m = r.vectors;
@@ -97,14 +97,15 @@ fn from_eigen2(r: Eigen2) -> Worked
 }
 
 fn from_eigen3(r: Eigen3) -> Worked
-    ensures { λ w. ⌜ w ≡ worked (fromEigen3 F (ofEigen3 r)) ⌝ }
+    ensures { λ w. ⌜ w ≡ fromEigen3 F (ofEigen3 r) ⌝ }
 {
+    let made = r.made;
     let v = r.values;
     let m = r.vectors;
     let left = all9(m);
     Worked {
         code: r.code,
-        count: r.count,
+        count: made.count,
         settled: mark(r.settled),
         values: [v[0], v[1], v[2]],
         left,
@@ -113,7 +114,7 @@ fn from_eigen3(r: Eigen3) -> Worked
 }
 
 fn from_svd2(r: Svd2) -> Worked
-    ensures { λ w. ⌜ w ≡ worked (fromSvd2 F (ofSvd2 r)) ⌝ }
+    ensures { λ w. ⌜ w ≡ fromSvd2 F (ofSvd2 r) ⌝ }
 {
     let s = r.values;
     let u = r.u;
@@ -131,8 +132,9 @@ fn from_svd2(r: Svd2) -> Worked
 }
 
 fn from_svd3(r: Svd3) -> Worked
-    ensures { λ w. ⌜ w ≡ worked (fromSvd3 F (ofSvd3 r)) ⌝ }
+    ensures { λ w. ⌜ w ≡ fromSvd3 F (ofSvd3 r) ⌝ }
 {
+    let made = r.made;
     let s = r.values;
     let u = r.u;
     let v = r.v;
@@ -140,7 +142,7 @@ fn from_svd3(r: Svd3) -> Worked
     let right = all9(v);
     Worked {
         code: r.code,
-        count: r.count,
+        count: made.count,
         settled: mark(r.settled),
         values: [s[0], s[1], s[2]],
         left,
@@ -149,7 +151,7 @@ fn from_svd3(r: Svd3) -> Worked
 }
 
 fn whole_factor(left: [Real; 9]) -> Worked
-    ensures { λ w. ⌜ w ≡ worked (wholeFactor F left) ⌝ }
+    ensures { λ w. ⌜ w ≡ wholeFactor F left ⌝ }
 {
     Worked {
         code: DONE,
@@ -163,7 +165,7 @@ fn whole_factor(left: [Real; 9]) -> Worked
 
 // On refusal the early writes are no answer.
 fn from_factor2(r: Factor2) -> Worked
-    ensures { λ w. ⌜ w ≡ worked (fromFactor F 3 (ofFactor2 r)) ⌝ }
+    ensures { λ w. ⌜ w ≡ fromFactor F 3 (ofFactor2 r) ⌝ }
 {
     let code = r.code;
     let l = r.factor;
@@ -175,7 +177,7 @@ fn from_factor2(r: Factor2) -> Worked
 }
 
 fn from_factor3(r: Factor3) -> Worked
-    ensures { λ w. ⌜ w ≡ worked (fromFactor F 6 (ofFactor3 r)) ⌝ }
+    ensures { λ w. ⌜ w ≡ fromFactor F 6 (ofFactor3 r) ⌝ }
 {
     let code = r.code;
     let l = r.factor;
@@ -187,7 +189,7 @@ fn from_factor3(r: Factor3) -> Worked
 }
 
 fn from_solved2(r: Solved2) -> Worked
-    ensures { λ w. ⌜ w ≡ worked (fromSolved F 3 2 (ofSolved2 r)) ⌝ }
+    ensures { λ w. ⌜ w ≡ fromSolved F 3 2 (ofSolved2 r) ⌝ }
 {
     let x = r.solution;
     let l = r.factor;
@@ -203,7 +205,7 @@ fn from_solved2(r: Solved2) -> Worked
 }
 
 fn from_solved3(r: Solved3) -> Worked
-    ensures { λ w. ⌜ w ≡ worked (fromSolved F 6 3 (ofSolved3 r)) ⌝ }
+    ensures { λ w. ⌜ w ≡ fromSolved F 6 3 (ofSolved3 r) ⌝ }
 {
     let x = r.solution;
     let l = r.factor;
@@ -252,7 +254,7 @@ fn mat3(a: [Real; 9]) -> Mat3
 
 // The answer of a kind to its numbers; 3 for a kind that is none.
 pub fn work(kind: u8, nine: [Real; 9], three: [Real; 3]) -> Worked
-    ensures { λ w. ⌜ w ≡ worked (workOf F kind nine three) ⌝ }
+    ensures { λ w. ⌜ w ≡ workOf F kind nine three ⌝ }
 {
     match kind {
         1 => from_eigen2(eigen::eigen2x2::eigen(sym2(nine))),

@@ -3,7 +3,7 @@ use crate::operations::answer;
 use crate::words::wide;
 ghost use Prim.Native.Nat.{_+_, _*_, _≤_};
 ghost use lib.ListN.{length};
-ghost use Rattle.probe.specs.Limits.{Within};
+ghost use Rattle.probe.specs.Limits.{SmallItem};
 
 // What the header asks for: the operation, and the words of an item and of its answer.
 pub(crate) struct Job {
@@ -39,7 +39,7 @@ fn put_item(out: &mut [u8], at: usize, words: [u64; 64], m: usize)
 
 // Answers the first `count` items.
 pub(crate) fn answer_items(s: &[u8], out: &mut [u8], job: Job, count: usize)
-    requires { ⌜ Within (job .n) (job .m) ⌝ }
+    requires { ⌜ SmallItem (job .n) (job .m) ⌝ }
     requires { ⌜ (count * (8 * job .n) ≤ length (now s)) × (count * (8 * job .m) ≤ length (now out)) ⌝ }
 {
     let op = job.op;

@@ -23,7 +23,7 @@ use libc::STDOUT_FILENO;
 ghost use Prim.Native.Nat.{_≤_};
 ghost use mathlib.Core.Path.{_≡_};
 ghost use lib.ListN.{length};
-ghost use Rattle.probe.specs.Limits.{Within};
+ghost use Rattle.probe.specs.Limits.{SmallItem};
 
 fn say(text: &[u8]) {
     io::write_all(STDERR_FILENO, text);
@@ -38,7 +38,7 @@ fn written(answers: &[u8]) -> bool {
     false
 }
 
-// How many items a turn takes: of any size they and their answers fit into the buffers.
+// How many items a round takes: of any size they and their answers fit into the buffers.
 const MOST: usize = 128;
 
 // Reads `end` bytes, or what is left, and says how many came. A read that fails counts as the end.
@@ -51,10 +51,10 @@ fn fill(buf: &mut [u8], end: usize) -> usize
     if came < end { came } else { end }
 }
 
-// Reads as much as a turn takes, or what is left, and answers its whole items; says whether there may be more.
-fn turn(buf: &mut [u8], out: &mut [u8], job: Job) -> bool
+// Reads as much as a round takes, or what is left, and answers its whole items; says whether there may be more.
+fn round(buf: &mut [u8], out: &mut [u8], job: Job) -> bool
     requires { ⌜ (length (now buf) ≡ 65536) × (length (now out) ≡ 65536) ⌝ }
-    requires { ⌜ Within (job .n) (job .m) ⌝ }
+    requires { ⌜ SmallItem (job .n) (job .m) ⌝ }
 {
     let size = 8 * job.n;
     let end = MOST * size;
@@ -65,18 +65,18 @@ fn turn(buf: &mut [u8], out: &mut [u8], job: Job) -> bool
     written(&out[..full]) && came == end
 }
 
-// A proved loop has to end, and nothing says that the input does: the turns count down from a number that no run uses up.
+// A proved loop has to end, and nothing says that the input does: the rounds count down from a number that no run uses up.
 fn serve(job: Job)
-    requires { ⌜ Within (job .n) (job .m) ⌝ }
+    requires { ⌜ SmallItem (job .n) (job .m) ⌝ }
 {
     let mut buf = io::large_buffer();
     let mut out = io::large_buffer();
-    let mut turns = u64::MAX;
-    while turns > 0 {
-        if !turn(&mut buf, &mut out, job) {
+    let mut rounds = u64::MAX;
+    while rounds > 0 {
+        if !round(&mut buf, &mut out, job) {
             return;
         }
-        turns -= 1;
+        rounds -= 1;
     }
 }
 

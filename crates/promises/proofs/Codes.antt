@@ -9,10 +9,11 @@ use lib.ListN.{length}
 use lib.Ieee.{Format}
 use Rattle.float.specs.Choice.{pick}
 use Rattle.kinds.specs.Slots.{knownKind}
-use Rattle.kinds.specs.Work.{KindAnswer, refusedKind, workOf}
+use Rattle.kinds.specs.Work.{refusedKind, workOf}
+use Rattle.kinds.specs.declared.work.Worked.{Worked}
 use Rattle.record.specs.Layout.{requestSize, answerSize}
 use Rattle.record.specs.Request.{kindOf, reservedZero, unusedZero, formOf, usedFinite, judgedOf}
-use Rattle.record.specs.Answer.{Step, stepOf}
+use Rattle.record.specs.Answer.{Step, recordStepOf}
 use Rattle.record.proofs.Used.{used-numbers}
 use Rattle.promises.specs.Conditions.{nineOf, threeOf, outputLength, inputLength, unknownKind, notZero, inputNotFinite, pivotNotAbove, answerNotFinite, Exactly, Codes}
 use Rattle.promises.proofs.Kernels.{kind-code}
@@ -21,7 +22,7 @@ use Rattle.promises.proofs.Rows.{Row, firstRow, exact, none}
 -- ---- a request of the right size
 
 -- the tests of 3, 4 and 5, and then the kind's answer w
-asked : (f : Format) (w : KindAnswer) (code : ℕ) (known zero used : Bool) → (known ≡ true → used ≡ true → w .code ≡ code)
+asked : (f : Format) (w : Worked) (code : ℕ) (known zero used : Bool) → (known ≡ true → used ≡ true → w .code ≡ code)
     → pick (eqb (pick known (pick zero 0 4) 3) 0) (pick used w (refusedKind f 5 0)) (refusedKind f (pick known (pick zero 0 4) 3) 0) .code
     ≡ pick (not known) 3 (pick (not zero) 4 (pick (not used) 5 code))
 asked f w code true true true h = h refl refl
@@ -39,7 +40,7 @@ module _ (f : Format) (s a : List ℕ) where
   judged-rows : judgedOf f s .code ≡ pick (unknownKind f s a) 3 (pick (notZero f s a) 4 (pick (inputNotFinite f s a) 5 lastRows))
   unfolding judgedOf formOf
   judged-rows =
-      asked f (workOf f (kindOf s) (nineOf f s a) (threeOf f s a)) lastRows (knownKind (kindOf s)) (reservedZero (kindOf s) s && unusedZero f (kindOf s) s) (usedFinite f (kindOf s) s) work-rows
+      asked f (workOf f (kindOf s) (nineOf f s a) (threeOf f s a)) lastRows (knownKind (kindOf s)) (reservedZero s && unusedZero f (kindOf s) s) (usedFinite f (kindOf s) s) work-rows
 
   -- ---- both sizes
 
@@ -64,13 +65,13 @@ module _ (f : Format) (s a : List ℕ) where
   sized x y z true false = refl
   sized x y z false u = refl
 
-  by-table : stepOf f s a .code ≡ firstRow rows
-  unfolding stepOf
+  by-table : recordStepOf f s a .code ≡ firstRow rows
+  unfolding recordStepOf
   by-table =
       sized _ _ _ (eqb (length a) (answerSize f)) (eqb (length s) (requestSize f))
       ∙ ap (λ (k : ℕ). pick (outputLength f s a) 2 (pick (inputLength f s a) 1 k)) judged-rows
 
-  through : {Q : Type 0} (k : ℕ) → Exactly (firstRow rows ≡ k) Q → Exactly (stepOf f s a .code ≡ k) Q
+  through : {Q : Type 0} (k : ℕ) → Exactly (firstRow rows ≡ k) Q → Exactly (recordStepOf f s a .code ≡ k) Q
   through k h = ((λ e. h .0 (sym by-table ∙ e)), (λ q. by-table ∙ h .1 q))
 
 pub codes : (f : Format) (s a : List ℕ) → Codes f s a

@@ -21,7 +21,8 @@ use Rattle.svd.specs.Svd2x2.{Svd2Answer, sides2Of, factors2Of, judgedSvd2, svd2
 use Rattle.svd.specs.Svd3x3.{SvdAnswer, factorsOf, judgedSvd, svdOf}
 use Rattle.svd.specs.Svd3x3 as svd3
 use Rattle.kinds.specs.Slots.{knownKind, nineUsed, threeUsed}
-use Rattle.kinds.specs.Work.{KindAnswer, firstOf, fromFactor, workOf}
+use Rattle.kinds.specs.Work.{firstOf, fromFactor, workOf}
+use Rattle.kinds.specs.declared.work.Worked.{Worked}
 use Rattle.promises.proofs.Stops.{six, steps2-stops, steps3-stops}
 use Rattle.promises.specs.Conditions.{pivots2Of, pivots3Of, pivotsOf, oneAtMostZero, eigen3Numbers, svd3Numbers, numbersOf}
 
@@ -94,7 +95,7 @@ module _ (f : Format) where
   -- a record of a factor has the factor's code
   pub from-factor-code : (s : ℕ) (r : FactorAnswer) → fromFactor f s r .code ≡ r .code
   unfolding fromFactor
-  from-factor-code s r = by-eqb (λ (w : KindAnswer). w .code ≡ r .code) (r .code) 0 _ _ (λ e. sym e) (λ _. refl)
+  from-factor-code s r = by-eqb (λ (w : Worked). w .code ≡ r .code) (r .code) 0 _ _ (λ e. sym e) (λ _. refl)
 
   factor2-code : (a : List Float) → allFinite a ≡ true → fromFactor f 3 (factor2Of f (zeros f 3) a) .code ≡ six (oneAtMostZero f (pivots2Of f a)) (seven (allFinite (steps2Of f (zeros f 3) a .factor)))
   unfolding factor2Of

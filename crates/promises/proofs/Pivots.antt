@@ -13,7 +13,8 @@ use Rattle.matrix.specs.Answer.{zeros}
 use Rattle.cholesky.specs.Factor.{FactorAnswer, plain, steps2Of, steps3Of, judgedFactor, factor2Of, factor3Of}
 use Rattle.cholesky.specs.Solve.{SolvedAnswer, judgedSolved, refusedSolved, solution2Of, solution3Of, factorAndSolve2Of, factorAndSolve3Of}
 use Rattle.kinds.specs.Slots.{knownKind, nineUsed, threeUsed}
-use Rattle.kinds.specs.Work.{KindAnswer, firstOf, refusedKind, fromFactor, workOf}
+use Rattle.kinds.specs.Work.{firstOf, refusedKind, fromFactor, workOf}
+use Rattle.kinds.specs.declared.work.Worked.{Worked}
 use Rattle.record.specs.Layout.{nineAt, threeAt}
 use Rattle.record.specs.Bytes.{numbersFrom}
 use Rattle.record.specs.Request.{kindOf, reservedZero, unusedZero, formOf, usedFinite, judgedOf}
@@ -38,7 +39,7 @@ module _ (f : Format) where
   from-hands : (s pivot : ℕ) (r : FactorAnswer) → Handed pivot r → fromFactor f s r .code ≡ 6 → fromFactor f s r .count ≡ pivot
   unfolding fromFactor
   from-hands s pivot r h c =
-      by-eqb (λ (w : KindAnswer). w .code ≡ 6 → w .count ≡ pivot) (r .code) 0 _ _ (λ _ c. absurd (omega arith)) (λ _ _. h (sym (from-factor-code f s r) ∙ c)) c
+      by-eqb (λ (w : Worked). w .code ≡ 6 → w .count ≡ pivot) (r .code) 0 _ _ (λ _ c. absurd (omega arith)) (λ _ _. h (sym (from-factor-code f s r) ∙ c)) c
 
   factor2-hands : (a : List Float) → fromFactor f 3 (factor2Of f (zeros f 3) a) .code ≡ 6 → fromFactor f 3 (factor2Of f (zeros f 3) a) .count ≡ refusedPivot f 1 (pivots2Of f a)
   unfolding factor2Of
@@ -117,8 +118,8 @@ pivot-given f s =
     let kind = kindOf s in
     let nine = numbersFrom f 9 nineAt s in
     let three = numbersFrom f 3 (threeAt f) s in
-    let zero = reservedZero kind s && unusedZero f kind s in
-    let P : KindAnswer → Type 0 = λ (w : KindAnswer). w .code ≡ 6 → w .count ≡ refusedPivot f 1 (pivotsOf f kind nine) in
+    let zero = reservedZero s && unusedZero f kind s in
+    let P : Worked → Type 0 = λ (w : Worked). w .code ≡ 6 → w .count ≡ refusedPivot f 1 (pivotsOf f kind nine) in
     by-eqb P (formOf f s) 0 (pick (usedFinite f kind s) (workOf f kind nine three) (refusedKind f 5 0)) (refusedKind f (formOf f s) 0)
     (λ e. by-test P (usedFinite f kind s) (workOf f kind nine three) (refusedKind f 5 0)
     (λ u. let used = used-numbers f kind s u in work-hands f nine three kind (known-form (knownKind kind) zero e) (used .0) (used .1))

@@ -1,4 +1,4 @@
--- A number whose highest bit is turned is its negation: the other fields stay, and the sign is the other one.
+-- A number whose highest bit is flipped is its negation: the other fields stay, and the sign is the other one.
 use mathlib.Core.Path.{_≡_, refl, sym, ap, _∙_}
 use mathlib.Core.Bool.{Bool, true, false, cond}
 use mathlib.Core.List.{List, [], _∷_, _++_}
@@ -13,25 +13,25 @@ use Rattle.float.proofs.Choice.{by-ltb}
 use Rattle.float.proofs.Negation.{neg-twice}
 use Rattle.record.specs.Bytes.{wordOf}
 use Rattle.record.specs.Layout.{numberBytes}
-use Rattle.promises.specs.Wiring.{turnedByte}
+use Rattle.promises.specs.Wiring.{flippedByte}
 
 -- ---- the fields
 
-odd-turn : (d q k l : ℕ) → odd d true q k l ≡ neg (odd d false q k l)
+odd-flip : (d q k l : ℕ) → odd d true q k l ≡ neg (odd d false q k l)
 unfolding odd neg
-odd-turn d zero k l = refl
-odd-turn d (suc q) k l = refl
+odd-flip d zero k l = refl
+odd-flip d (suc q) k l = refl
 
-chosen-turn : (a b : Bool) (x y : Float) → x ≡ neg y → cond a (cond b (inf true) nan) x ≡ neg (cond a (cond b (inf false) nan) y)
+chosen-flip : (a b : Bool) (x y : Float) → x ≡ neg y → cond a (cond b (inf true) nan) x ≡ neg (cond a (cond b (inf false) nan) y)
 unfolding neg
-chosen-turn true true x y e = refl
-chosen-turn true false x y e = refl
-chosen-turn false b x y e = e
+chosen-flip true true x y e = refl
+chosen-flip true false x y e = refl
+chosen-flip false b x y e = e
 
-fields-turn : (f : Format) (x t : ℕ) → ofFields f true x t ≡ neg (ofFields f false x t)
+fields-flip : (f : Format) (x t : ℕ) → ofFields f true x t ≡ neg (ofFields f false x t)
 unfolding ofFields
-fields-turn f zero t = odd-turn (prec f) t 0 (low f)
-fields-turn f (suc x) t = chosen-turn (eqb (suc x) (ones f)) (eqb t 0) _ _ (odd-turn (prec f) (hid f + t) x (low f))
+fields-flip f zero t = odd-flip (prec f) t 0 (low f)
+fields-flip f (suc x) t = chosen-flip (eqb (suc x) (ones f)) (eqb t 0) _ _ (odd-flip (prec f) (hid f + t) x (low f))
 
 -- ---- the highest bit set
 
@@ -43,7 +43,7 @@ top-set : (f : Format) (n : ℕ) → n < top f → ofBits f (n + top f) ≡ neg 
 unfolding ofBits
 top-set f n h =
     let e = set-fields f n h in
-    rw (le-leb (top f) (n + top f) (omega arith), lt-leb (top f) n h, e .0, e .1) (fields-turn f (n % top f / hid f) (n % hid f))
+    rw (le-leb (top f) (n + top f) (omega arith), lt-leb (top f) n h, e .0, e .1) (fields-flip f (n % top f / hid f) (n % hid f))
 
 -- ---- in the last byte
 
@@ -64,18 +64,18 @@ module _ (f : Format) (p n : ℕ) (t : p * 128 ≡ top f) (h : n < p) where
   set-bit : (b : ℕ) → b < 128 → ofBits f (n + p * (b + 128)) ≡ neg (ofBits f (n + p * b))
   set-bit b l = let e : n + p * (b + 128) ≡ n + p * b + top f = omega (arith, mul-add p b 128) in ap (ofBits f) e ∙ top-set f (n + p * b) (below-top b l)
 
-  turned-byte : (b : ℕ) → b < 256 → ofBits f (n + p * turnedByte b) ≡ neg (ofBits f (n + p * b))
-  turned-byte b k = by-ltb {X = ℕ} (λ _. ofBits f (n + p * turnedByte b) ≡ neg (ofBits f (n + p * b))) b 128 0 0
-      (λ l. let e : turnedByte b ≡ b + 128 = omega arith in ap (λ (c : ℕ). ofBits f (n + p * c)) e ∙ set-bit b l)
+  flipped-byte : (b : ℕ) → b < 256 → ofBits f (n + p * flippedByte b) ≡ neg (ofBits f (n + p * b))
+  flipped-byte b k = by-ltb {X = ℕ} (λ _. ofBits f (n + p * flippedByte b) ≡ neg (ofBits f (n + p * b))) b 128 0 0
+      (λ l. let e : flippedByte b ≡ b + 128 = omega arith in ap (λ (c : ℕ). ofBits f (n + p * c)) e ∙ set-bit b l)
       (λ l.
       let c : ℕ = b - 128 in
-      let e : turnedByte b ≡ c = omega arith in
+      let e : flippedByte b ≡ c = omega arith in
       let q : c + 128 ≡ b = omega arith in
       ap (λ (d : ℕ). ofBits f (n + p * d)) e ∙ sym (neg-twice (ofBits f (n + p * c))) ∙ ap neg (sym (set-bit c (omega arith))) ∙ ap (λ (d : ℕ). neg (ofBits f (n + p * d))) q)
 
 -- ---- a number in its bytes
 
-pub number-turned : (f : Format) (l : List ℕ) (b : ℕ) → length l + 1 ≡ numberBytes f → wordOf l < 256 ^ length l → b < 256 → ofBits f (wordOf (l ++ (turnedByte b ∷ []))) ≡ neg (ofBits f (wordOf (l ++ (b ∷ []))))
-number-turned f l b e h k =
-    ap (ofBits f) (last-byte l (turnedByte b)) ∙ turned-byte f (256 ^ length l) (wordOf l) (top-byte f (length l) e) h b k
+pub number-flipped : (f : Format) (l : List ℕ) (b : ℕ) → length l + 1 ≡ numberBytes f → wordOf l < 256 ^ length l → b < 256 → ofBits f (wordOf (l ++ (flippedByte b ∷ []))) ≡ neg (ofBits f (wordOf (l ++ (b ∷ []))))
+number-flipped f l b e h k =
+    ap (ofBits f) (last-byte l (flippedByte b)) ∙ flipped-byte f (256 ^ length l) (wordOf l) (top-byte f (length l) e) h b k
     ∙ ap (λ (m : ℕ). neg (ofBits f m)) (sym (last-byte l b))

@@ -1,4 +1,4 @@
--- Reversed wiring at the record: the turned request says the same of its form, its six numbers are the negated ones, and of the kernel's answers the theorem `reversed` tells.
+-- Reversed wiring at the record: the flipped request says the same of its form, its six numbers are the negated ones, and of the kernel's answers the theorem `reversed` tells.
 use mathlib.Core.Path.{_≡_, refl, sym, ap, _∙_, subst}
 use mathlib.Core.Bool.{Bool, true, false, _&&_}
 use mathlib.Core.List.{List, [], _∷_, _++_}
@@ -20,7 +20,8 @@ use Rattle.matrix.proofs.Tables.{at-tabulate, tabulate-same, first-tabulate}
 use Rattle.eigen.specs.Eigen3x3.{EigenAnswer, eigenOf}
 use Rattle.eigen.specs.Reversed.{negated, AllDiffer, ValuesExchanged, ColumnsExchanged, Reversed}
 use Rattle.eigen.proofs.Reversed.{reversed}
-use Rattle.kinds.specs.Work.{KindAnswer, firstOf, markOf, fromEigen3, refusedKind, workOf}
+use Rattle.kinds.specs.Work.{firstOf, markOf, fromEigen3, refusedKind, workOf}
+use Rattle.kinds.specs.declared.work.Worked.{Worked}
 use Rattle.record.specs.Layout.{numberBytes, nineAt, threeAt, placeOf, requestSize, answerSize}
 use Rattle.record.specs.Bytes.{wordOf, part, numberAt, numbersFrom, allZero, zeroFrom}
 use Rattle.record.specs.Request.{kindOf, reservedZero, formOf, usedFinite, judgedOf}
@@ -29,8 +30,8 @@ use Rattle.record.proofs.Words.{word-below}
 use Rattle.record.proofs.Answers.{code-in-place}
 use Rattle.record.proofs.Streams.{stepped}
 use Rattle.record.proofs.answer.zanikory_answer_record.Reads as answer-record
-use Rattle.promises.specs.Wiring.{turnedNumber, turnedNumbers, turned, Bytes, ReversedRecords}
-use Rattle.promises.proofs.Signs.{number-turned}
+use Rattle.promises.specs.Wiring.{flippedNumber, flippedNumbers, flipped, Bytes, ReversedRecords}
+use Rattle.promises.proofs.Signs.{number-flipped}
 
 -- ---- one number
 
@@ -56,16 +57,16 @@ module _ (f : Format) where
       by binary32 = refl
       by binary64 = refl
 
-  turned-length : (x : List ℕ) → length x ≡ width → length (turnedNumber f x) ≡ width
-  turned-length x e = let m = width-more in simp (length-append, length-take) (omega arith)
+  flipped-length : (x : List ℕ) → length x ≡ width → length (flippedNumber f x) ≡ width
+  flipped-length x e = let m = width-more in simp (length-append, length-take) (omega arith)
 
-  one-turned : (x : List ℕ) → length x ≡ width → Bytes x → ofBits f (wordOf (turnedNumber f x)) ≡ neg (ofBits f (wordOf x))
-  one-turned x e h =
+  one-flipped : (x : List ℕ) → length x ≡ width → Bytes x → ofBits f (wordOf (flippedNumber f x)) ≡ neg (ofBits f (wordOf x))
+  one-flipped x e h =
       let m = width-more in
       let l = take (width - 1) x in
       let k : length l ≡ width - 1 = length-take-le (width - 1) x (omega arith) in
       let whole : l ++ (getD x (width - 1) 0 ∷ []) ≡ x = sym (take-suc x (width - 1) 0 (omega arith)) ∙ take-all (suc (width - 1)) x (omega arith) in
-      number-turned f l (getD x (width - 1) 0) (omega arith) (word-below l (bytes-take (width - 1) x h)) (h (width - 1)) ∙ ap (λ (y : List ℕ). neg (ofBits f (wordOf y))) whole
+      number-flipped f l (getD x (width - 1) 0) (omega arith) (word-below l (bytes-take (width - 1) x h)) (h (width - 1)) ∙ ap (λ (y : List ℕ). neg (ofBits f (wordOf y))) whole
 
   -- ---- n numbers
 
@@ -76,11 +77,11 @@ module _ (f : Format) where
   rest-length n s h = let e = mul-suc width n in simp length-drop (omega arith)
 
   -- behind the first number
-  behind-first : (n : ℕ) (s r : List ℕ) → width * suc n ≤ length s → (m : ℕ) → drop (width * suc m) (turnedNumber f (take width s) ++ r) ≡ drop (width * m) r
+  behind-first : (n : ℕ) (s r : List ℕ) → width * suc n ≤ length s → (m : ℕ) → drop (width * suc m) (flippedNumber f (take width s) ++ r) ≡ drop (width * m) r
   behind-first n s r h m =
       let e = mul-suc width m in
-      let x = turnedNumber f (take width s) in
-      let l = turned-length (take width s) (first-length n s h) in
+      let x = flippedNumber f (take width s) in
+      let l = flipped-length (take width s) (first-length n s h) in
       let q : width * suc m ≡ length x + width * m = omega arith in
       ap (λ (k : ℕ). drop k (x ++ r)) q ∙ drop-append-add x r (width * m)
 
@@ -90,39 +91,39 @@ module _ (f : Format) where
       let q : width * suc m ≡ width + width * m = omega arith in
       ap (λ (k : ℕ). drop k s) q ∙ sym (drop-drop (width * m) width s)
 
-  numbers-turned : (n : ℕ) (s : List ℕ) → width * n ≤ length s → Bytes s → (i : ℕ) → i < n
-      → ofBits f (wordOf (part (width * i) width (turnedNumbers f n s))) ≡ neg (ofBits f (wordOf (part (width * i) width s)))
-  unfolding turnedNumbers
-  numbers-turned zero s h b i l = absurd (omega arith)
-  numbers-turned (suc n) s h b zero l =
+  numbers-flipped : (n : ℕ) (s : List ℕ) → width * n ≤ length s → Bytes s → (i : ℕ) → i < n
+      → ofBits f (wordOf (part (width * i) width (flippedNumbers f n s))) ≡ neg (ofBits f (wordOf (part (width * i) width s)))
+  unfolding flippedNumbers
+  numbers-flipped zero s h b i l = absurd (omega arith)
+  numbers-flipped (suc n) s h b zero l =
       let x = take width s in
       let e = first-length n s h in
-      let seam : take width (turnedNumber f x ++ turnedNumbers f n (drop width s)) ≡ turnedNumber f x =
-      ap (λ (k : ℕ). take k (turnedNumber f x ++ turnedNumbers f n (drop width s))) (sym (turned-length x e)) ∙ take-append-seam (turnedNumber f x) (turnedNumbers f n (drop width s)) in
-      rw (mul-zero width) (ap (λ (y : List ℕ). ofBits f (wordOf y)) seam ∙ one-turned x e (bytes-take width s b))
-  numbers-turned (suc n) s h b (suc i) l =
-      ap (λ (y : List ℕ). ofBits f (wordOf (take width y))) (behind-first n s (turnedNumbers f n (drop width s)) h i)
-      ∙ numbers-turned n (drop width s) (rest-length n s h) (bytes-drop width s b) i (omega arith)
+      let seam : take width (flippedNumber f x ++ flippedNumbers f n (drop width s)) ≡ flippedNumber f x =
+      ap (λ (k : ℕ). take k (flippedNumber f x ++ flippedNumbers f n (drop width s))) (sym (flipped-length x e)) ∙ take-append-seam (flippedNumber f x) (flippedNumbers f n (drop width s)) in
+      rw (mul-zero width) (ap (λ (y : List ℕ). ofBits f (wordOf y)) seam ∙ one-flipped x e (bytes-take width s b))
+  numbers-flipped (suc n) s h b (suc i) l =
+      ap (λ (y : List ℕ). ofBits f (wordOf (take width y))) (behind-first n s (flippedNumbers f n (drop width s)) h i)
+      ∙ numbers-flipped n (drop width s) (rest-length n s h) (bytes-drop width s b) i (omega arith)
       ∙ ap (λ (y : List ℕ). neg (ofBits f (wordOf (take width y)))) (sym (behind-number s i))
 
-  rest-same : (n : ℕ) (s : List ℕ) → width * n ≤ length s → drop (width * n) (turnedNumbers f n s) ≡ drop (width * n) s
-  unfolding turnedNumbers
+  rest-same : (n : ℕ) (s : List ℕ) → width * n ≤ length s → drop (width * n) (flippedNumbers f n s) ≡ drop (width * n) s
+  unfolding flippedNumbers
   rest-same zero s h = refl
-  rest-same (suc n) s h = behind-first n s (turnedNumbers f n (drop width s)) h n ∙ rest-same n (drop width s) (rest-length n s h) ∙ sym (behind-number s n)
+  rest-same (suc n) s h = behind-first n s (flippedNumbers f n (drop width s)) h n ∙ rest-same n (drop width s) (rest-length n s h) ∙ sym (behind-number s n)
 
-  same-length : (n : ℕ) (s : List ℕ) → width * n ≤ length s → length (turnedNumbers f n s) ≡ length s
-  unfolding turnedNumbers
+  same-length : (n : ℕ) (s : List ℕ) → width * n ≤ length s → length (flippedNumbers f n s) ≡ length s
+  unfolding flippedNumbers
   same-length zero s h = refl
   same-length (suc n) s h =
       let e = mul-suc width n in
       let rest = same-length n (drop width s) (rest-length n s h) in
       let whole = length-drop width s in
-      rw (length-append, turned-length (take width s) (first-length n s h)) (omega arith)
+      rw (length-append, flipped-length (take width s) (first-length n s h)) (omega arith)
 
 -- ---- the answers of the kernel
 
 -- what `ReversedRecords` asks, before the answers are bytes
-record Alike (x y : KindAnswer) : Type 0 where
+record Alike (x y : Worked) : Type 0 where
   pub codes : x .code ≡ y .code
   pub counts : x .count ≡ y .count
   pub marks : x .settled ≡ y .settled
@@ -147,7 +148,7 @@ module _ (f : Format) (a0 a1 a2 a3 a5 a6 a7 : ℕ) (body : List ℕ) (size : len
   request b = a0 ∷ a1 ∷ a2 ∷ a3 ∷ 2 ∷ a5 ∷ a6 ∷ a7 ∷ b
 
   abbrev other : List ℕ
-  other = turnedNumbers f 6 body
+  other = flippedNumbers f 6 body
 
   in-body : (b : List ℕ) (m : ℕ) → drop (8 + m) (request b) ≡ drop m b
   in-body b m = sym (drop-drop m 8 (request b))
@@ -165,7 +166,7 @@ module _ (f : Format) (a0 a1 a2 a3 a5 a6 a7 : ℕ) (body : List ℕ) (size : len
   number-negated : (i : ℕ) → i < 6 → numberIn other i ≡ neg (numberIn body i)
   number-negated i l =
       ap (λ (y : List ℕ). ofBits f (wordOf (take (width f) y))) (in-body other (width f * i))
-      ∙ numbers-turned f 6 body (omega arith) bytes i l
+      ∙ numbers-flipped f 6 body (omega arith) bytes i l
       ∙ ap (λ (y : List ℕ). neg (ofBits f (wordOf (take (width f) y)))) (sym (in-body body (width f * i)))
 
   six-negated : tabulate 6 (numberIn other) ≡ negated (tabulate 6 (numberIn body))
@@ -174,7 +175,7 @@ module _ (f : Format) (a0 a1 a2 a3 a5 a6 a7 : ℕ) (body : List ℕ) (size : len
   same-form : formOf f (request other) ≡ formOf f (request body)
   unfolding formOf
   same-form =
-      ap (λ (t : Bool). pick (reservedZero 2 (request body) && t) 0 4)
+      ap (λ (t : Bool). pick (reservedZero (request body) && t) 0 4)
       (ap (λ (y : List ℕ). allZero (take (threeAt f - placeOf f nineAt 6) y) && zeroFrom (placeOf f (threeAt f) 0) (requestSize f) (request other)) (same-behind (width f * 6) (omega arith))
       ∙ ap (λ (y : List ℕ). zeroFrom (placeOf f nineAt 6) (threeAt f) (request body) && allZero (take (requestSize f - placeOf f (threeAt f) 0) y)) three-same)
     where
@@ -189,7 +190,7 @@ module _ (f : Format) (a0 a1 a2 a3 a5 a6 a7 : ℕ) (body : List ℕ) (size : len
       ap (λ (t : Bool). t && true)
       (ap allFinite six-negated ∙ all-finite-neg 6 (at (tabulate 6 (numberIn body))) ∙ ap allFinite (first-tabulate 6 6 (numberIn body) (omega arith)))
 
-  abbrev workIn : List ℕ → KindAnswer
+  abbrev workIn : List ℕ → Worked
   workIn b = workOf f 2 (numbersFrom f 9 nineAt (request b)) (numbersFrom f 3 (threeAt f) (request b))
 
   work-alike : Alike (workIn body) (workIn other)
@@ -202,7 +203,7 @@ module _ (f : Format) (a0 a1 a2 a3 a5 a6 a7 : ℕ) (body : List ℕ) (size : len
       (subst (λ (y : List Float). Reversed (eigenOf f (firstOf 6 (tabulate 9 (numberIn body)))) (eigenOf f y)) (sym firsts) (reversed f (firstOf 6 (tabulate 9 (numberIn body))) refl))
 
   -- the same tests on both sides, so the same side of each choice is taken
-  both-chosen : (t : Bool) (x y z : KindAnswer) → Alike x y → (t ≡ false → Alike z z) → Alike (pick t x z) (pick t y z)
+  both-chosen : (t : Bool) (x y z : Worked) → Alike x y → (t ≡ false → Alike z z) → Alike (pick t x z) (pick t y z)
   both-chosen true x y z h k = h
   both-chosen false x y z h k = k refl
 
@@ -215,7 +216,7 @@ module _ (f : Format) (a0 a1 a2 a3 a5 a6 a7 : ℕ) (body : List ℕ) (size : len
       (both-chosen (usedFinite f 2 (request body)) _ _ _ work-alike (λ _. refused-alike f 5 (λ e. absurd (omega arith))))
       (λ e. refused-alike f k (eqb-false k 0 e)))
 
-  reversed-request : ReversedRecords f (request body) (turned f (request body))
+  reversed-request : ReversedRecords f (request body) (flipped f (request body))
   unfolding recordOf
   reversed-request =
       let h = judged-alike in
@@ -223,7 +224,7 @@ module _ (f : Format) (a0 a1 a2 a3 a5 a6 a7 : ℕ) (body : List ℕ) (size : len
 
 -- ---- any request of kind 2
 
-pub reversed-records : (f : Format) (s : List ℕ) → length s ≡ requestSize f → kindOf s ≡ 2 → Bytes s → ReversedRecords f s (turned f s)
+pub reversed-records : (f : Format) (s : List ℕ) → length s ≡ requestSize f → kindOf s ≡ 2 → Bytes s → ReversedRecords f s (flipped f s)
 reversed-records f [] h k b = absurd (omega arith)
 reversed-records f (a0 ∷ []) h k b = absurd (omega arith)
 reversed-records f (a0 ∷ a1 ∷ []) h k b = absurd (omega arith)
@@ -233,13 +234,13 @@ reversed-records f (a0 ∷ a1 ∷ a2 ∷ a3 ∷ a4 ∷ []) h k b = absurd (omega
 reversed-records f (a0 ∷ a1 ∷ a2 ∷ a3 ∷ a4 ∷ a5 ∷ []) h k b = absurd (omega arith)
 reversed-records f (a0 ∷ a1 ∷ a2 ∷ a3 ∷ a4 ∷ a5 ∷ a6 ∷ []) h k b = absurd (omega arith)
 reversed-records f (a0 ∷ a1 ∷ a2 ∷ a3 ∷ a4 ∷ a5 ∷ a6 ∷ a7 ∷ body) h k b =
-    subst (λ (kind : ℕ). ReversedRecords f (a0 ∷ a1 ∷ a2 ∷ a3 ∷ kind ∷ a5 ∷ a6 ∷ a7 ∷ body) (turned f (a0 ∷ a1 ∷ a2 ∷ a3 ∷ kind ∷ a5 ∷ a6 ∷ a7 ∷ body))) (sym k)
+    subst (λ (kind : ℕ). ReversedRecords f (a0 ∷ a1 ∷ a2 ∷ a3 ∷ kind ∷ a5 ∷ a6 ∷ a7 ∷ body) (flipped f (a0 ∷ a1 ∷ a2 ∷ a3 ∷ kind ∷ a5 ∷ a6 ∷ a7 ∷ body))) (sym k)
     (reversed-request f a0 a1 a2 a3 a5 a6 a7 body (omega arith) (bytes-drop 8 (a0 ∷ a1 ∷ a2 ∷ a3 ∷ a4 ∷ a5 ∷ a6 ∷ a7 ∷ body) b))
 
--- ---- any two answers within the promise of the record step, of which the second is to the turned request
+-- ---- any two answers within the promise of the record step, of which the second is to the flipped request
 
-turned-size : (f : Format) (s : List ℕ) → length s ≡ requestSize f → length (turned f s) ≡ requestSize f
-turned-size f s h =
+flipped-size : (f : Format) (s : List ℕ) → length s ≡ requestSize f → length (flipped f s) ≡ requestSize f
+flipped-size f s h =
     let first = length-take-le 8 s (omega arith) in
     let rest = length-drop 8 s in
     let same = same-length f 6 (drop 8 s) (omega arith) in
@@ -247,12 +248,12 @@ turned-size f s h =
 
 pub reversed-calls : (κs : Lfts 2) (a b : _) (r q : ℕ) (x y : _) → answer-record.Post κs a r x → answer-record.Post κs b q y
     → length (a .1 .0 .now) ≡ answerSize F → length (b .1 .0 .now) ≡ answerSize F
-    → length (a .0 .now) ≡ requestSize F → kindOf (a .0 .now) ≡ 2 → Bytes (a .0 .now) → b .0 .now ≡ turned F (a .0 .now)
+    → length (a .0 .now) ≡ requestSize F → kindOf (a .0 .now) ≡ 2 → Bytes (a .0 .now) → b .0 .now ≡ flipped F (a .0 .now)
     → (r ≡ q) × (x .1 .0 .now ≡ answeredOf F (a .0 .now)) × (y .1 .0 .now ≡ answeredOf F (b .0 .now)) × ReversedRecords F (a .0 .now) (b .0 .now)
 reversed-calls κs a b r q x y p w u v n k c e =
     let s = a .0 .now in
     let t = b .0 .now in
-    let m : length t ≡ requestSize F = ap length e ∙ turned-size F s n in
+    let m : length t ≡ requestSize F = ap length e ∙ flipped-size F s n in
     let h : ReversedRecords F s t = subst (ReversedRecords F s) (sym e) (reversed-records F s n k c) in
     let l = stepped s (a .1 .0 .now) n u in
     let o = stepped t (b .1 .0 .now) m v in

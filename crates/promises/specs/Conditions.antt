@@ -23,7 +23,7 @@ use Rattle.kinds.specs.Work.{firstOf}
 use Rattle.record.specs.Layout.{nineAt, threeAt, requestSize, answerSize}
 use Rattle.record.specs.Bytes.{numbersFrom}
 use Rattle.record.specs.Request.{kindOf, reservedZero, unusedZero, usedFinite, judgedOf}
-use Rattle.record.specs.Answer.{stepOf}
+use Rattle.record.specs.Answer.{recordStepOf}
 
 -- ---- 6: the pivots by the formula. One counts only if those before it are above zero; if one of them is not, that is a 6 already.
 
@@ -101,7 +101,7 @@ module _ (f : Format) (request answer : List ℕ) where
 
   -- 4: a reserved byte or an unused number slot is not all zero bits
   abbrev pub notZero : Bool
-  notZero = not (reservedZero (kindOf request) request && unusedZero f (kindOf request) request)
+  notZero = not (reservedZero request && unusedZero f (kindOf request) request)
 
   -- 5: a used input number is NaN or infinite
   abbrev pub inputNotFinite : Bool
@@ -128,7 +128,7 @@ Exactly P Q = (P → Q) × (Q → P)
 
 module _ (f : Format) (request answer : List ℕ) where
   abbrev Gives : ℕ → Type 0
-  Gives k = stepOf f request answer .code ≡ k
+  Gives k = recordStepOf f request answer .code ≡ k
 
   -- the rows by their numbers
   abbrev c1 : Bool

@@ -6,7 +6,8 @@ use lib.ListN.{length, replicate}
 use lib.Ieee.{Float, binary64, ofBits, toBits}
 use Rattle.float.specs.Root.{rootOf}
 use Rattle.cholesky.specs.Factor.{FactorAnswer, factor2Of, factor3Of}
-use Rattle.kinds.specs.Work.{KindAnswer, workOf}
+use Rattle.kinds.specs.Work.{workOf}
+use Rattle.kinds.specs.declared.work.Worked.{Worked}
 
 -- ---- a row
 
@@ -40,7 +41,7 @@ floats = map (ofBits binary64)
 abbrev pub patterns : List Float → List ℕ
 patterns = map (toBits binary64)
 
-abbrev pub ofKind : KindAnswer → Shown
+abbrev pub ofKind : Worked → Shown
 ofKind w = record { code = w .code; six = w .count; seven = w .settled; values = patterns (w .values); left = patterns (w .left); right = patterns (w .right) }
 
 abbrev pub ofFactor : FactorAnswer → Shown

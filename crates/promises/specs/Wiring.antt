@@ -1,4 +1,4 @@
--- Reversed wiring at the record: a request, the one with the signs of its six numbers turned, and what their answers have to do with each other. Definitions only.
+-- Reversed wiring at the record: a request, the one with the signs of its six numbers flipped, and what their answers have to do with each other. Definitions only.
 use mathlib.Core.Path.{_≡_}
 use mathlib.Core.List.{List, [], _∷_, _++_}
 use Prim.Native.Nat.{ℕ, zero, suc, _+_, _-_, _%_, _<_}
@@ -9,24 +9,24 @@ use Rattle.record.specs.Layout.{numberBytes, nineAt}
 use Rattle.record.specs.Request.{judgedOf}
 use Rattle.record.specs.Answer.{answeredOf}
 
--- ---- signs turned
+-- ---- signs flipped
 
--- the highest bit of a byte turned
-abbrev pub turnedByte : ℕ → ℕ
-turnedByte b = (b + 128) % 256
+-- the highest bit of a byte flipped
+abbrev pub flippedByte : ℕ → ℕ
+flippedByte b = (b + 128) % 256
 
 -- the sign of a number is the highest bit of its last byte
-abbrev pub turnedNumber : Format → List ℕ → List ℕ
-turnedNumber f x = take (numberBytes f - 1) x ++ (turnedByte (getD x (numberBytes f - 1) 0) ∷ [])
+abbrev pub flippedNumber : Format → List ℕ → List ℕ
+flippedNumber f x = take (numberBytes f - 1) x ++ (flippedByte (getD x (numberBytes f - 1) 0) ∷ [])
 
--- the first n numbers turned
-unfoldable pub turnedNumbers : Format → ℕ → List ℕ → List ℕ
-turnedNumbers f zero s = s
-turnedNumbers f (suc n) s = turnedNumber f (take (numberBytes f) s) ++ turnedNumbers f n (drop (numberBytes f) s)
+-- the first n numbers flipped
+unfoldable pub flippedNumbers : Format → ℕ → List ℕ → List ℕ
+flippedNumbers f zero s = s
+flippedNumbers f (suc n) s = flippedNumber f (take (numberBytes f) s) ++ flippedNumbers f n (drop (numberBytes f) s)
 
--- a request with the first six of its numbers turned
-abbrev pub turned : Format → List ℕ → List ℕ
-turned f s = take nineAt s ++ turnedNumbers f 6 (drop nineAt s)
+-- a request with the first six of its numbers flipped
+abbrev pub flipped : Format → List ℕ → List ℕ
+flipped f s = take nineAt s ++ flippedNumbers f 6 (drop nineAt s)
 
 -- what lies in a slice of bytes
 abbrev pub Bytes : List ℕ → Type 0

@@ -12,12 +12,13 @@ use lib.ListN.{length, getD, take, drop, replicate, length-append, length-take, 
 use lib.Seq.{length-take-le, getD-append-add, drop-append-add, drop-drop}
 use lib.Ieee.{Format}
 use Rattle.float.proofs.Choice.{chosen, by-eqb}
-use Rattle.kinds.specs.Work.{KindAnswer, refusedKind, workOf}
+use Rattle.kinds.specs.Work.{refusedKind, workOf}
 use Rattle.kinds.proofs.Works.{Sized, work-sized, Clear, work-clear, work-five}
+use Rattle.kinds.specs.declared.work.Worked.{Worked}
 use Rattle.record.specs.Layout.{numberBytes, eventBytes, numbersAt, nineAt, threeAt, requestSize, codeAt, answerSize}
 use Rattle.record.specs.Bytes.{numbersFrom}
 use Rattle.record.specs.Request.{kindOf, formOf, usedFinite, judgedOf}
-use Rattle.record.specs.Answer.{recordOf, Step, stepOf}
+use Rattle.record.specs.Answer.{recordOf, Step, recordStepOf}
 use Rattle.record.specs.Stream.{requestOf, answersOf}
 use Rattle.record.proofs.Used.{used-numbers}
 use Rattle.record.proofs.Numbers.{numbers-length, zeros-bytes}
@@ -43,9 +44,9 @@ event-length f s h = length-take-le 4 s (omega arith)
 
 -- every answer is a record over one event's four bytes
 each-record : (P : Step → Type 0) (f : Format) (s a : List ℕ) → length a ≡ answerSize f
-    → ((event : List ℕ) (kind : ℕ) (w : KindAnswer) → length event ≡ 4 → Sized w → Clear f w → P (record { code = w .code; answer = recordOf f event kind w }))
-    → P (stepOf f s a)
-unfolding stepOf
+    → ((event : List ℕ) (kind : ℕ) (w : Worked) → length event ≡ 4 → Sized w → Clear f w → P (record { code = w .code; answer = recordOf f event kind w }))
+    → P (recordStepOf f s a)
+unfolding recordStepOf
 each-record P f s a h k =
     rw (eq-eqb (length a) (answerSize f) h) (by-eqb P (length s) (requestSize f) _ _
     (λ e. k (take eventBytes s) (kindOf s) (judgedOf f s) (event-length f s e) (judged-sized f s) (judged-clear f s))
@@ -53,30 +54,30 @@ each-record P f s a h k =
 
 -- ---- the size
 
-record-size : (f : Format) (event : List ℕ) (kind : ℕ) (w : KindAnswer) → length event ≡ 4 → Sized w → length (recordOf f event kind w) ≡ answerSize f
+record-size : (f : Format) (event : List ℕ) (kind : ℕ) (w : Worked) → length event ≡ 4 → Sized w → length (recordOf f event kind w) ≡ answerSize f
 unfolding recordOf
 record-size f event kind w h n = simp (length-append, numbers-length, h, n .0, n .1, n .2) (omega arith)
 
-pub answer-size : (f : Format) (s a : List ℕ) → length a ≡ answerSize f → length (stepOf f s a .answer) ≡ answerSize f
+pub answer-size : (f : Format) (s a : List ℕ) → length a ≡ answerSize f → length (recordStepOf f s a .answer) ≡ answerSize f
 answer-size f s a h = each-record (λ (t : Step). length (t .answer) ≡ answerSize f) f s a h (λ event kind w e n _. record-size f event kind w e n)
 
 -- ---- the code that is handed back stands in byte 5, unless it is 2 and nothing is written
 
-record-code : (f : Format) (event : List ℕ) (kind : ℕ) (w : KindAnswer) → length event ≡ 4 → getD (recordOf f event kind w) codeAt 0 ≡ w .code
+record-code : (f : Format) (event : List ℕ) (kind : ℕ) (w : Worked) → length event ≡ 4 → getD (recordOf f event kind w) codeAt 0 ≡ w .code
 unfolding recordOf
 record-code f event kind w h = ap (λ (k : ℕ). getD (recordOf f event kind w) (k + 1) 0) (sym h) ∙ getD-append-add event _ 1 0
 
-pub code-in-place : (f : Format) (s a : List ℕ) → length a ≡ answerSize f → getD (stepOf f s a .answer) codeAt 0 ≡ stepOf f s a .code
+pub code-in-place : (f : Format) (s a : List ℕ) → length a ≡ answerSize f → getD (recordStepOf f s a .answer) codeAt 0 ≡ recordStepOf f s a .code
 code-in-place f s a h = each-record (λ (t : Step). getD (t .answer) codeAt 0 ≡ t .code) f s a h (λ event kind w e _ _. record-code f event kind w e)
 
 same? : (m n : ℕ) → (m ≡ n) ⊎ (m ≡ n → ⊥)
 same? m n = by-eqb {A = ℕ} (λ _. (m ≡ n) ⊎ (m ≡ n → ⊥)) m n 0 0 inl inr
 
-no-room : (f : Format) (s a : List ℕ) → (length a ≡ answerSize f → ⊥) → stepOf f s a .code ≡ 2
-unfolding stepOf
+no-room : (f : Format) (s a : List ℕ) → (length a ≡ answerSize f → ⊥) → recordStepOf f s a .code ≡ 2
+unfolding recordStepOf
 no-room f s a n = rw (ne-eqb (length a) (answerSize f) n)
 
-pub code-unless-2 : (f : Format) (s a : List ℕ) → (stepOf f s a .code ≡ 2 → ⊥) → getD (stepOf f s a .answer) codeAt 0 ≡ stepOf f s a .code
+pub code-unless-2 : (f : Format) (s a : List ℕ) → (recordStepOf f s a .code ≡ 2 → ⊥) → getD (recordStepOf f s a .answer) codeAt 0 ≡ recordStepOf f s a .code
 code-unless-2 f s a k = ⊎-elim (λ (e : length a ≡ answerSize f). code-in-place f s a e) (λ (n : length a ≡ answerSize f → ⊥). absurd (k (no-room f s a n))) (same? (length a) (answerSize f))
 
 -- ---- with a code other than 0 the mark is zero, and every byte from 8 to the end
@@ -89,13 +90,13 @@ record-clear f event kind code pivot h =
     ∙ drop-append-add event _ 3
     ∙ ap (λ (l : List ℕ). 0 ∷ l) (rw (zeros-bytes f 3, zeros-bytes f 9, replicate-append-replicate {A = ℕ} (numberBytes f * 9) (numberBytes f * 9) 0, replicate-append-replicate {A = ℕ} (numberBytes f * 3) (numberBytes f * 9 + numberBytes f * 9) 0, e))
 
-pub refused-unmarked : (f : Format) (s a : List ℕ) → length a ≡ answerSize f → (stepOf f s a .code ≡ 0 → ⊥) → drop 7 (stepOf f s a .answer) ≡ 0 ∷ replicate (answerSize f - numbersAt) 0
+pub refused-unmarked : (f : Format) (s a : List ℕ) → length a ≡ answerSize f → (recordStepOf f s a .code ≡ 0 → ⊥) → drop 7 (recordStepOf f s a .answer) ≡ 0 ∷ replicate (answerSize f - numbersAt) 0
 refused-unmarked f s a h =
     each-record (λ (t : Step). (t .code ≡ 0 → ⊥) → drop 7 (t .answer) ≡ 0 ∷ replicate (answerSize f - numbersAt) 0) f s a h
-    (λ event kind w e _ c k. ap (λ (w : KindAnswer). drop 7 (recordOf f event kind w)) (c k) ∙ record-clear f event kind (w .code) (w .count) e)
+    (λ event kind w e _ c k. ap (λ (w : Worked). drop 7 (recordOf f event kind w)) (c k) ∙ record-clear f event kind (w .code) (w .count) e)
 
-pub refused-clear : (f : Format) (s a : List ℕ) → length a ≡ answerSize f → (stepOf f s a .code ≡ 0 → ⊥) → drop numbersAt (stepOf f s a .answer) ≡ replicate (answerSize f - numbersAt) 0
-refused-clear f s a h k = sym (drop-drop 1 7 (stepOf f s a .answer)) ∙ ap (drop 1) (refused-unmarked f s a h k)
+pub refused-clear : (f : Format) (s a : List ℕ) → length a ≡ answerSize f → (recordStepOf f s a .code ≡ 0 → ⊥) → drop numbersAt (recordStepOf f s a .answer) ≡ replicate (answerSize f - numbersAt) 0
+refused-clear f s a h k = sym (drop-drop 1 7 (recordStepOf f s a .answer)) ∙ ap (drop 1) (refused-unmarked f s a h k)
 
 -- ---- after the record's test no kernel gives 5
 

@@ -5,12 +5,12 @@ use Prim.Native.Nat.{ℕ, _≤_}
 use lib.ListN.{length, getD, take}
 use lib.Seq.{take-all}
 use lib.Ieee.{Format}
-use Rattle.kinds.specs.Work.{KindAnswer}
 use Rattle.record.specs.Bytes.{numberBytesOf}
 use Rattle.record.specs.Answer.{recordOf}
 use Rattle.record.proofs.Parts.{four}
+use Rattle.kinds.specs.declared.work.Worked.{Worked}
 
-pub record-of-parts : (f : Format) (event : List ℕ) (kind : ℕ) (w : KindAnswer) (l₁ l₂ l₃ l₄ : List ℕ) (i j k n : ℕ) → length event ≡ 4
+pub record-of-parts : (f : Format) (event : List ℕ) (kind : ℕ) (w : Worked) (l₁ l₂ l₃ l₄ : List ℕ) (i j k n : ℕ) → length event ≡ 4
     → take i l₁ ≡ getD event 0 0 ∷ getD event 1 0 ∷ getD event 2 0 ∷ getD event 3 0 ∷ kind ∷ w .code ∷ w .count ∷ w .settled ∷ []
     → take j l₂ ≡ take i l₁ ++ numberBytesOf f (w .values)
     → take k l₃ ≡ take j l₂ ++ numberBytesOf f (w .left)

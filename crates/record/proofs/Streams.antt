@@ -9,12 +9,12 @@ use lib.ListN.{length, take, drop, length-take, length-append}
 use lib.Seq.{take-at, drop-at, drop-drop}
 use Rattle.float.specs.Width.{F}
 use Rattle.record.specs.Layout.{requestSize, answerSize}
-use Rattle.record.specs.Answer.{answeredOf, stepOf}
+use Rattle.record.specs.Answer.{answeredOf, recordStepOf}
 use Rattle.record.specs.Stream.{requestOf, answersOf}
 
 -- a record step on a request and a place of the right sizes
-pub stepped : (request answer : List ℕ) → length request ≡ requestSize F → length answer ≡ answerSize F → stepOf F request answer .answer ≡ answeredOf F request
-unfolding stepOf
+pub stepped : (request answer : List ℕ) → length request ≡ requestSize F → length answer ≡ answerSize F → recordStepOf F request answer .answer ≡ answeredOf F request
+unfolding recordStepOf
 stepped request answer h k = rw (eq-eqb _ (answerSize F) k, eq-eqb _ (requestSize F) h)
 
 -- a part exchanged for one of its size

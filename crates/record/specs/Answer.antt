@@ -6,17 +6,14 @@ use lib.Dec.{eqb}
 use lib.ListN.{length, take, replicate}
 use lib.Ieee.{Format}
 use Rattle.float.specs.Choice.{pick}
-use Rattle.kinds.specs.Work.{KindAnswer, refusedKind}
+use Rattle.kinds.specs.Work.{refusedKind}
 use Rattle.kinds.specs.declared.work.Worked.{Worked}
 use Rattle.record.specs.Layout.{eventBytes, requestSize, answerSize}
 use Rattle.record.specs.Bytes.{numberBytesOf}
 use Rattle.record.specs.Request.{kindOf, judgedOf}
 
-abbrev pub ofWorked : Worked → KindAnswer
-ofWorked w = record { code = w .code; count = w .count; settled = w .settled; values = w .values; left = w .left; right = w .right }
-
 -- event number, kind, code, count, mark, and the numbers: good answers and refused ones alike
-unfoldable pub recordOf : Format → List ℕ → ℕ → KindAnswer → List ℕ
+unfoldable pub recordOf : Format → List ℕ → ℕ → Worked → List ℕ
 recordOf f event kind w =
     event ++ (kind ∷ w .code ∷ w .count ∷ w .settled ∷ numberBytesOf f (w .values) ++ (numberBytesOf f (w .left) ++ numberBytesOf f (w .right)))
 
@@ -33,8 +30,8 @@ pub record Step : Type 0 where
   pub answer : List ℕ
 
 -- the code handed back and the answer slice at exit: 2 leaves the slice, 1 writes the answer to a request of the wrong size
-unfoldable pub stepOf : Format → List ℕ → List ℕ → Step
-stepOf f request answer =
+unfoldable pub recordStepOf : Format → List ℕ → List ℕ → Step
+recordStepOf f request answer =
     pick (eqb (length answer) (answerSize f))
     (pick (eqb (length request) (requestSize f))
     (record { code = judgedOf f request .code; answer = answeredOf f request })

@@ -8,7 +8,8 @@ use lib.Ieee.{Format}
 use Rattle.float.specs.Choice.{pick}
 use Rattle.float.specs.Sign.{allFinite}
 use Rattle.kinds.specs.Slots.{knownKind, nineUsed, threeUsed}
-use Rattle.kinds.specs.Work.{KindAnswer, refusedKind, workOf}
+use Rattle.kinds.specs.Work.{refusedKind, workOf}
+use Rattle.kinds.specs.declared.work.Worked.{Worked}
 use Rattle.record.specs.Layout.{kindAt, wayAt, nineAt, threeAt, placeOf, requestSize}
 use Rattle.record.specs.Bytes.{numbersFrom, zeroFrom}
 
@@ -17,16 +18,16 @@ kindOf s = getD s kindAt 0
 
 -- ---- the tests of 3 and 4: 0, 3 or 4
 
--- every reserved byte is zero, for every kind
-abbrev pub reservedZero : ℕ → List ℕ → Bool
-reservedZero kind s = zeroFrom wayAt nineAt s
+-- every reserved byte is zero
+abbrev pub reservedZero : List ℕ → Bool
+reservedZero s = zeroFrom wayAt nineAt s
 
 -- so is every number that the kind does not use
 abbrev pub unusedZero : Format → ℕ → List ℕ → Bool
 unusedZero f kind s = zeroFrom (placeOf f nineAt (nineUsed kind)) (threeAt f) s && zeroFrom (placeOf f (threeAt f) (threeUsed kind)) (requestSize f) s
 
 unfoldable pub formOf : Format → List ℕ → ℕ
-formOf f s = pick (knownKind (kindOf s)) (pick (reservedZero (kindOf s) s && unusedZero f (kindOf s) s) 0 4) 3
+formOf f s = pick (knownKind (kindOf s)) (pick (reservedZero s && unusedZero f (kindOf s) s) 0 4) 3
 
 -- the same of a slice of any size: 1 comes first
 unfoldable pub sizedFormOf : Format → List ℕ → ℕ
@@ -39,7 +40,7 @@ usedFinite f kind s = allFinite (numbersFrom f (nineUsed kind) nineAt s) && allF
 
 -- ---- the kernel's answer, if the tests let it be asked
 
-unfoldable pub judgedOf : Format → List ℕ → KindAnswer
+unfoldable pub judgedOf : Format → List ℕ → Worked
 judgedOf f s =
     pick (eqb (formOf f s) 0)
     (pick (usedFinite f (kindOf s) s)

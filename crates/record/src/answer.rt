@@ -16,7 +16,7 @@ ghost use Prim.Native.Nat.{_≤_};
 ghost use lib.ListN.{length, take};
 ghost use Rattle.float.specs.Width.{F};
 ghost use Rattle.record.specs.Layout.{answerSize};
-ghost use Rattle.record.specs.Answer.{ofWorked, recordOf, stepOf, Stepped};
+ghost use Rattle.record.specs.Answer.{recordOf, recordStepOf, Stepped};
 
 // The first eight bytes.
 fn put_head(out: &mut [u8], head: [u8; 8])
@@ -32,7 +32,7 @@ fn put_head(out: &mut [u8], head: [u8; 8])
 
 fn put_record(out: &mut [u8], event: [u8; 4], kind: u8, w: Worked)
     requires { ⌜ length (now out) ≡ answerSize F ⌝ }
-    ensures { λ _. ⌜ now (out .exit) ≡ recordOf F event kind (ofWorked w) ⌝ }
+    ensures { λ _. ⌜ now (out .exit) ≡ recordOf F event kind w ⌝ }
 {
     put_head(
         out,
@@ -58,7 +58,7 @@ fn put_record(out: &mut [u8], event: [u8; 4], kind: u8, w: Worked)
 // The code, with the answer to any request in the answer slice. An answer slice of the wrong size stays as it is.
 #[no_mangle]
 pub extern "C" fn zanikory_answer_record(request: &[u8], answer: &mut [u8]) -> u8
-    ensures { λ r. ⌜ Stepped (stepOf F (now (request .entry)) (now (answer .entry))) r (now (answer .exit)) ⌝ }
+    ensures { λ r. ⌜ Stepped (recordStepOf F (now (request .entry)) (now (answer .entry))) r (now (answer .exit)) ⌝ }
 {
     if answer.len() != ANSWER_SIZE {
         return OUTPUT_LENGTH;

@@ -27,7 +27,6 @@ ghost use lib.ListN.{length, take};
 ghost use Rattle.float.specs.Width.{F};
 ghost use Rattle.float.specs.Sign.{allFinite};
 ghost use Rattle.kinds.specs.Slots.{nineUsed, threeUsed};
-ghost use Rattle.kinds.specs.Work.{worked};
 ghost use Rattle.record.specs.Layout.{nineAt, threeAt, placeOf, requestSize};
 ghost use Rattle.record.specs.Bytes.{numberAt, numbersFrom};
 ghost use Rattle.record.specs.Request.{reservedZero, unusedZero, formOf, sizedFormOf, judgedOf};
@@ -35,7 +34,7 @@ ghost use Rattle.record.specs.Request.{reservedZero, unusedZero, formOf,
 // Whether the reserved bytes and the numbers that the kind doesn't use are all zero bits.
 fn unused_zero(s: &[u8], kind: u8) -> bool
     requires { ⌜ length (now s) ≡ requestSize F ⌝ }
-    ensures { λ r. ⌜ r ≡ (reservedZero kind (now (s .entry)) && unusedZero F kind (now (s .entry))) ⌝ }
+    ensures { λ r. ⌜ r ≡ (reservedZero (now (s .entry)) && unusedZero F kind (now (s .entry))) ⌝ }
 {
     let n = nine_used(kind);
     let t = three_used(kind);
@@ -124,7 +123,7 @@ fn used_finite(kind: u8, nine: [Real; 9], three: [Real; 3]) -> bool
 // The answer of a request of the right size.
 pub(crate) fn judged(s: &[u8]) -> Worked
     requires { ⌜ length (now s) ≡ requestSize F ⌝ }
-    ensures { λ w. ⌜ w ≡ worked (judgedOf F (now (s .entry))) ⌝ }
+    ensures { λ w. ⌜ w ≡ judgedOf F (now (s .entry)) ⌝ }
 {
     let code = form_of(s);
     if code != DONE {

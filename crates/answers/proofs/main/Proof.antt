@@ -1,4 +1,4 @@
--- Each turn keeps less than a request and writes at most a batch of answers, so their number has room to the last turn.
+-- Each round keeps less than a request and writes at most a batch of answers, so their number has room to the last round.
 use borrow.Author.Needs.{needs}
 use Prim.Native.Nat.{_+_, _*_, _^_, _≤_, _<_}
 use Rattle.float.specs.Width.{F}
@@ -8,10 +8,10 @@ use Rattle.answers.proofs.main.Statement.{statement}
 use Rattle.answers.proofs.main.Tie as tie
 
 abbrev Inv-loop : tie.InvT-loop
-Inv-loop buf₀ out₀ have₀ written₀ turns₀ t7 buf out have written turns = Large buf × Large out × (have < requestSize F) × (written + batch F * turns ≤ batch F * 2 ^ 53)
+Inv-loop buf₀ out₀ have₀ written₀ rounds₀ t7 buf out have written rounds = Large buf × Large out × (have < requestSize F) × (written + batch F * rounds ≤ batch F * 2 ^ 53)
 
 abbrev μ-loop : tie.MeasureT-loop
-μ-loop buf₀ out₀ have₀ written₀ turns₀ t7 buf out have written turns = turns
+μ-loop buf₀ out₀ have₀ written₀ rounds₀ t7 buf out have written rounds = rounds
 
 pub main-spec : {M : Type 1} → statement M
 main-spec =

@@ -1,4 +1,4 @@
--- `probe::serve` is safe and ends: the buffers keep their lengths. The measure is the turns left.
+-- `probe::serve` is safe and ends: the buffers keep their lengths. The measure is the rounds left.
 use borrow.Author.Needs.{needs}
 use mathlib.Core.Path.{_≡_}
 use lib.ListN.{length}
@@ -6,10 +6,10 @@ use Rattle.probe.proofs.serve.Statement.{statement}
 use Rattle.probe.proofs.serve.Tie as tie
 
 abbrev Inv-loop : tie.InvT-loop
-Inv-loop job buf₀ out₀ turns₀ buf out turns = (length buf ≡ 65536) × (length out ≡ 65536)
+Inv-loop job buf₀ out₀ rounds₀ buf out rounds = (length buf ≡ 65536) × (length out ≡ 65536)
 
 abbrev μ-loop : tie.MeasureT-loop
-μ-loop job buf₀ out₀ turns₀ buf out turns = turns
+μ-loop job buf₀ out₀ rounds₀ buf out rounds = rounds
 
 pub serve-spec : {M : Type 1} → statement M
 serve-spec =

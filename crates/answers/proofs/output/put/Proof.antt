@@ -1,11 +1,11 @@
--- What went out never passes what there is, since one write moves no more than it was handed; and each turn takes a try.
+-- What went out never passes what there is, since one write moves no more than it was handed; and each round takes a try.
 use borrow.Author.Needs.{needs}
 use mathlib.Core.Path.{subst}
 use mathlib.Core.List.{List}
 use Prim.Native.Nat.{ℕ, _+_, _-_, _≤_}
 use native.Mathlib.Omega.{arith}
 use lib.ListN.{length, take, drop, length-take}
-use Rattle.answers.specs.Buffers.{Within}
+use Rattle.answers.specs.Buffers.{AtMost}
 use Rattle.answers.proofs.output.put.Statement.{statement}
 use Rattle.answers.proofs.output.put.Tie as tie
 
@@ -22,14 +22,14 @@ abbrev μ-loop : tie.MeasureT-loop
 add-done : tie.Need-add-done Inv-loop μ-loop
 add-done c =
     let k = c .before .before .before .before .before .before .before in
-    let w = subst (Within _) (c .before .n .given .1) (c .before .before .before .once .ensures) in
+    let w = subst (AtMost _) (c .before .n .given .1) (c .before .before .before .once .ensures) in
     let h = moved-within _ (k .loop .done) (k .before .before .args .out .now) w (k .loop .inv) in
     omega arith
 
 loop-again : tie.Need-loop-again Inv-loop μ-loop
 loop-again c =
     let k = c .before .before .before .before .before .before .before in
-    let w = subst (Within _) (c .before .n .given .1) (c .before .before .before .once .ensures) in
+    let w = subst (AtMost _) (c .before .n .given .1) (c .before .before .before .once .ensures) in
     moved-within _ (k .loop .done) (k .before .before .args .out .now) w (k .loop .inv)
 
 pub put-spec : {M : Type 1} → statement M

@@ -4,7 +4,7 @@ use Prim.Native.Nat.{ℕ}
 use borrow.Author.Needs.{needs}
 use borrow.Author.Tests.{ne-eqb}
 use Rattle.float.specs.Width.{F}
-use Rattle.kinds.specs.Work.{worked, workOf}
+use Rattle.kinds.specs.Work.{workOf}
 use Rattle.kinds.proofs.work.work.Statement.{statement}
 use Rattle.kinds.proofs.work.work.Tie as tie
 
@@ -13,56 +13,56 @@ unfolding workOf
 returns c =
     let a = c .before .before .before .before .args in
     (rw (c .before .eigen .ensures, c .before .before .sym2 .ensures) at (c .from-eigen2 .ensures))
-    ∙ sym (ap (λ (k : ℕ). worked (workOf F k (a .nine) (a .t3))) (c .before .before .before .match .keys1))
+    ∙ sym (ap (λ (k : ℕ). workOf F k (a .nine) (a .t3)) (c .before .before .before .match .keys1))
 
 returns-2 : tie.Need-returns-2
 unfolding workOf
 returns-2 c =
     let a = c .before .before .before .before .args in
     (rw (c .before .eigen-jacobi .ensures, c .before .before .sym3 .ensures) at (c .from-eigen3 .ensures))
-    ∙ sym (ap (λ (k : ℕ). worked (workOf F k (a .nine) (a .t3))) (c .before .before .before .match .keys2))
+    ∙ sym (ap (λ (k : ℕ). workOf F k (a .nine) (a .t3)) (c .before .before .before .match .keys2))
 
 returns-3 : tie.Need-returns-3
 unfolding workOf
 returns-3 c =
     let a = c .before .before .before .before .args in
     (rw (c .before .svd .ensures, c .before .before .mat2 .ensures) at (c .from-svd2 .ensures))
-    ∙ sym (ap (λ (k : ℕ). worked (workOf F k (a .nine) (a .t3))) (c .before .before .before .match .keys3))
+    ∙ sym (ap (λ (k : ℕ). workOf F k (a .nine) (a .t3)) (c .before .before .before .match .keys3))
 
 returns-4 : tie.Need-returns-4
 unfolding workOf
 returns-4 c =
     let a = c .before .before .before .before .args in
     (rw (c .before .svd2 .ensures, c .before .before .mat3 .ensures) at (c .from-svd3 .ensures))
-    ∙ sym (ap (λ (k : ℕ). worked (workOf F k (a .nine) (a .t3))) (c .before .before .before .match .keys4))
+    ∙ sym (ap (λ (k : ℕ). workOf F k (a .nine) (a .t3)) (c .before .before .before .match .keys4))
 
 returns-5 : tie.Need-returns-5
 unfolding workOf
 returns-5 c =
     let a = c .before .before .before .before .args in
     (rw (c .before .cholesky-2x2-explicit-factor .ensures, c .before .before .sym22 .ensures) at (c .from-factor2 .ensures))
-    ∙ sym (ap (λ (k : ℕ). worked (workOf F k (a .nine) (a .t3))) (c .before .before .before .match .keys5))
+    ∙ sym (ap (λ (k : ℕ). workOf F k (a .nine) (a .t3)) (c .before .before .before .match .keys5))
 
 returns-6 : tie.Need-returns-6
 unfolding workOf
 returns-6 c =
     let a = c .before .before .before .before .args in
     (rw (c .before .cholesky-3x3-explicit-factor .ensures, c .before .before .sym32 .ensures) at (c .from-factor3 .ensures))
-    ∙ sym (ap (λ (k : ℕ). worked (workOf F k (a .nine) (a .t3))) (c .before .before .before .match .keys6))
+    ∙ sym (ap (λ (k : ℕ). workOf F k (a .nine) (a .t3)) (c .before .before .before .match .keys6))
 
 returns-7 : tie.Need-returns-7
 unfolding workOf
 returns-7 c =
     let a = c .before .before .before .before .args in
     (rw (c .before .factor-and-solve .ensures, c .before .before .sym23 .ensures) at (c .from-solved2 .ensures))
-    ∙ sym (ap (λ (k : ℕ). worked (workOf F k (a .nine) (a .t3))) (c .before .before .before .match .keys7))
+    ∙ sym (ap (λ (k : ℕ). workOf F k (a .nine) (a .t3)) (c .before .before .before .match .keys7))
 
 returns-8 : tie.Need-returns-8
 unfolding workOf
 returns-8 c =
     let a = c .before .before .before .before .args in
     (rw (c .before .factor-and-solve2 .ensures, c .before .before .sym33 .ensures) at (c .from-solved3 .ensures))
-    ∙ sym (ap (λ (k : ℕ). worked (workOf F k (a .nine) (a .t3))) (c .before .before .before .match .keys8))
+    ∙ sym (ap (λ (k : ℕ). workOf F k (a .nine) (a .t3)) (c .before .before .before .match .keys8))
 
 returns-9 : tie.Need-returns-9
 unfolding workOf

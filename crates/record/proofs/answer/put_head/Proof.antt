@@ -1,4 +1,4 @@
--- Each turn copies one byte more.
+-- Each round copies one byte more.
 use borrow.Author.Needs.{needs}
 use mathlib.Core.Path.{_≡_, refl, _∙_}
 use Prim.Native.Nat.{_-_, _≤_}

@@ -1,4 +1,4 @@
--- The two sizes are asked in turn, and each outcome is one record, or none where the answer has no room.
+-- The two sizes are asked one after the other, and each outcome is one record, or none where the answer has no room.
 use borrow.Author.Needs.{needs}
 use borrow.Author.Tests.{eq-eqb, ne-eqb}
 use mathlib.Core.Path.{refl, ap, _∙_}
@@ -10,25 +10,25 @@ use Rattle.float.specs.Width.{F}
 use Rattle.kinds.specs.declared.work.Worked.{Worked}
 use Rattle.record.specs.Layout.{requestSize, answerSize}
 use Rattle.record.specs.Request.{kindOf, judgedOf}
-use Rattle.record.specs.Answer.{ofWorked, recordOf, stepOf}
+use Rattle.record.specs.Answer.{recordOf, recordStepOf}
 use Rattle.record.proofs.Parts.{first-four}
 use Rattle.record.proofs.answer.zanikory_answer_record.Statement.{statement}
 use Rattle.record.proofs.answer.zanikory_answer_record.Tie as tie
 
 returns : tie.Need-returns
-unfolding stepOf
+unfolding recordStepOf
 returns c = rw (ne-eqb _ (answerSize F) (c .if1 .taken)) (refl, refl)
 
 returns-2 : tie.Need-returns-2
-unfolding stepOf
+unfolding recordStepOf
 returns-2 c =
     let w = c .before .before .before in
     let sizes = w .before .before in
     rw (eq-eqb _ (answerSize F) (sizes .before .if1 .left), ne-eqb _ (requestSize F) (sizes .if2 .taken))
-    (refl, c .before .before .put-record .ensures ∙ ap (λ (r : Worked). recordOf F (replicate 4 0) 0 (ofWorked r)) (w .refused .ensures))
+    (refl, c .before .before .put-record .ensures ∙ ap (λ (r : Worked). recordOf F (replicate 4 0) 0 r) (w .refused .ensures))
 
 returns-3 : tie.Need-returns-3
-unfolding stepOf
+unfolding recordStepOf
 returns-3 c =
     let w = c .before .before .before .before .before .before .before .before .before in
     let sizes = w .before in
@@ -36,7 +36,7 @@ returns-3 c =
     rw (eq-eqb _ (answerSize F) (sizes .before .if1 .left), eq-eqb _ (requestSize F) (sizes .if2 .left)) (
       ap (λ (r : Worked). r .code) (w .judged .ensures),
       c .before .before .put-record2 .ensures
-          ∙ ap (λ (r : Worked). recordOf F (getD s 0 0 ∷ getD s 1 0 ∷ getD s 2 0 ∷ getD s 3 0 ∷ []) (kindOf s) (ofWorked r)) (w .judged .ensures)
+          ∙ ap (λ (r : Worked). recordOf F (getD s 0 0 ∷ getD s 1 0 ∷ getD s 2 0 ∷ getD s 3 0 ∷ []) (kindOf s) r) (w .judged .ensures)
           ∙ ap (λ (e : List ℕ). recordOf F e (kindOf s) (judgedOf F s)) (first-four s (omega arith)),
     )
 

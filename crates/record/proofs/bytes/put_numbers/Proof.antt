@@ -1,4 +1,4 @@
--- Each turn writes the bytes of one number more.
+-- Each round writes the bytes of one number more.
 use borrow.Author.Needs.{needs}
 use mathlib.Core.Path.{_≡_, refl, sym, ap, _∙_}
 use mathlib.Core.List.{_++_, append-nil}

@@ -1,4 +1,4 @@
--- What is written, with the bytes of what is left of the word behind it, stays the same in each turn.
+-- What is written, with the bytes of what is left of the word behind it, stays the same in each round.
 use borrow.Author.Needs.{needs}
 use mathlib.Core.Path.{_≡_, refl, sym, ap, _∙_}
 use mathlib.Core.List.{_++_, append-nil}

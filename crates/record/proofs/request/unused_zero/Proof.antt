@@ -1,4 +1,4 @@
--- The three tests in turn; a kind uses at most nine numbers and three, so that each lies in the request.
+-- The three tests one after the other; a kind uses at most nine numbers and three, so that each lies in the request.
 use borrow.Author.Needs.{needs}
 use mathlib.Core.Path.{_≡_, sym, ap, _∙_}
 use mathlib.Core.Bool.{true, false}

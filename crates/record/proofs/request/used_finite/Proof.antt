@@ -1,4 +1,4 @@
--- The two tests in turn; a kind uses at most nine numbers and three.
+-- The two tests one after the other; a kind uses at most nine numbers and three.
 use borrow.Author.Needs.{needs}
 use mathlib.Core.Path.{_≡_, sym, ap, _∙_}
 use mathlib.Core.Bool.{true, false}

@@ -1,4 +1,4 @@
--- Each turn answers one request more, and what lies behind the answers stays.
+-- Each round answers one request more, and what lies behind the answers stays.
 use borrow.Author.Needs.{needs}
 use mathlib.Core.Path.{_≡_, refl, sym, _∙_}
 use Prim.Native.Nat.{_-_, _*_, _≤_}

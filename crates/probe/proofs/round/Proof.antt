@@ -1,11 +1,11 @@
--- `probe::turn` is safe: what came goes into as many whole items as a turn takes, whose answers fit.
+-- `probe::round` is safe: what came goes into as many whole items as a round takes, whose answers fit.
 use borrow.Author.Needs.{needs}
 use native.Mathlib.Omega.{arith}
 use Prim.Native.Nat.{_*_}
 use lib.ListN.{length-take}
 use Rattle.probe.proofs.Counted.{split}
-use Rattle.probe.proofs.turn.Statement.{statement}
-use Rattle.probe.proofs.turn.Tie as tie
+use Rattle.probe.proofs.round.Statement.{statement}
+use Rattle.probe.proofs.round.Tie as tie
 
 answer-items-requires : tie.Need-answer-items-requires
 answer-items-requires c κs =
@@ -35,8 +35,8 @@ slice-aggregate-written c =
     let h = split (k .fill .result) 128 (8 * a .job .n) (8 * a .job .m) 65536 (omega arith) (omega arith) in
     simp length-take (omega arith)
 
-pub turn-spec : {M : Type 1} → statement M
-turn-spec =
+pub round-spec : {M : Type 1} → statement M
+round-spec =
     tie.close
     (tie.spec
     (λ c. search needs)
