@@ -77,11 +77,11 @@ withSolution f n r x = pick (eqb (r .code) 0) (record { code = 0; pivot = 0; fac
 abbrev pub judgedSolved : Format → ℕ → FactorAnswer → List Float → SolvedAnswer
 judgedSolved f n r x = judged (refusedSolved f n 0) 7 (ifWhole r (r .factor ++ x)) (withSolution f n r x)
 
-abbrev pub factorAndSolveOf : Format → ℕ → List Float → List Float → FactorAnswer → (List Float → List Float → List Float) → SolvedAnswer
-factorAndSolveOf f n a b r solution = judged (refusedSolved f n 0) 5 (a ++ b) (judgedSolved f n r (solution (r .factor) b))
+abbrev pub factorAndSolveOf : Format → ℕ → List Float → List Float → FactorAnswer → List Float → SolvedAnswer
+factorAndSolveOf f n a b r x = judged (refusedSolved f n 0) 5 (a ++ b) (judgedSolved f n r x)
 
 unfoldable pub factorAndSolve2Of : Format → List Float → List Float → SolvedAnswer
-factorAndSolve2Of f a b = factorAndSolveOf f 2 a b (steps2Of f (zeros f 3) a) (solution2Of f)
+factorAndSolve2Of f a b = let r = steps2Of f (zeros f 3) a in factorAndSolveOf f 2 a b r (solution2Of f (r .factor) b)
 
 unfoldable pub factorAndSolve3Of : Format → List Float → List Float → SolvedAnswer
-factorAndSolve3Of f a b = factorAndSolveOf f 3 a b (steps3Of f (zeros f 6) a) (solution3Of f)
+factorAndSolve3Of f a b = let r = steps3Of f (zeros f 6) a in factorAndSolveOf f 3 a b r (solution3Of f (r .factor) b)
