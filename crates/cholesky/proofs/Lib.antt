@@ -1,3 +1,6 @@
 pub mod Pivots
 pub mod Steps
+pub mod Stops
+pub mod Codes
+pub mod Owed
 pub mod Unique

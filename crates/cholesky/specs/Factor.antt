@@ -4,7 +4,7 @@ use Prim.Native.Nat.{ℕ}
 use lib.Dec.{eqb}
 use lib.Ieee.{Float, Format, sub, mul, div}
 use Rattle.float.specs.Choice.{pick}
-use Rattle.float.specs.Sign.{allFinite}
+use Rattle.float.specs.Judged.{judged}
 use Rattle.matrix.specs.Places.{at}
 use Rattle.matrix.specs.Symmetric.{sym2, sym3}
 use Rattle.cholesky.specs.Pivot.{PivotAnswer, pivotOf, hasRoot}
@@ -47,7 +47,6 @@ second2Of f l a l11 l21 =
     (λ (l22 : Float). plain 0 (l11 ∷ l21 ∷ l22 ∷ []))
 
 unfoldable pub steps2Of : Format → List Float → List Float → FactorAnswer
-unfolding pivotOf
 steps2Of f l a = withRoot (pivotOf f (at a 0) 1) l (λ (l11 : Float). second2Of f l a l11 (div f (at a 1) l11))
 
 -- ---- 3x3: places 11, 12, 22, 13, 23, 33
@@ -66,16 +65,25 @@ second3Of f l a l11 l21 =
     (λ (l22 : Float). rowThreeOf f l a l11 l21 l22 (div f (at a 3) l11))
 
 unfoldable pub steps3Of : Format → List Float → List Float → FactorAnswer
-unfolding pivotOf
 steps3Of f l a = withRoot (pivotOf f (at a 0) 1) l (λ (l11 : Float). second3Of f l a l11 (div f (at a 1) l11))
 
--- ---- judged: 5 before, and 7 after where the factor is whole; both leave the old factor l
+-- ---- judged: 5 before the steps r, and 7 after them; both leave the old factor l
+
+abbrev pub refusedFactor : List Float → ℕ → FactorAnswer
+refusedFactor l k = plain k l
+
+-- what is judged with the steps r: the numbers xs where they are whole, and nothing where they stopped
+abbrev pub ifWhole : FactorAnswer → List Float → List Float
+ifWhole r xs = pick (eqb (r .code) 0) xs []
 
 abbrev pub judgedFactor : List Float → FactorAnswer → FactorAnswer
-judgedFactor l r = pick (eqb (r .code) 0) (pick (allFinite (r .factor)) r (plain 7 l)) r
+judgedFactor l r = judged (refusedFactor l) 7 (ifWhole r (r .factor)) r
+
+abbrev pub factorOf : List Float → List Float → FactorAnswer → FactorAnswer
+factorOf l a r = judged (refusedFactor l) 5 a (judgedFactor l r)
 
 unfoldable pub factor2Of : Format → List Float → List Float → FactorAnswer
-factor2Of f l a = pick (allFinite a) (judgedFactor l (steps2Of f l a)) (plain 5 l)
+factor2Of f l a = factorOf l a (steps2Of f l a)
 
 unfoldable pub factor3Of : Format → List Float → List Float → FactorAnswer
-factor3Of f l a = pick (allFinite a) (judgedFactor l (steps3Of f l a)) (plain 5 l)
+factor3Of f l a = factorOf l a (steps3Of f l a)

@@ -1,3 +1,5 @@
 pub mod Pivot
 pub mod Factor
 pub mod Solve
+pub mod Pivots
+pub mod Owed

@@ -3,6 +3,7 @@ use crate::pivot::Pivot;
 use crate::pivot::pivot_step;
 use crate::pivot::refusal_of;
 use float::sign::all_finite;
+use float::sign::both_finite;
 use float::width::Real;
 use matrix::answers::Numbers2;
 use matrix::answers::judge2;
@@ -107,14 +108,15 @@ pub fn cholesky_2x2_explicit_factor(l: Sym2, a: Sym2) -> Factor2
     ensures { λ r. ⌜ r ≡ factor2 (factor2Of F (l .«data») (a .«data»)) ⌝ }
 {
     let d = a.data;
-    if !all_finite(&d) {
-        return Factor2 {
+    if all_finite(&d) {
+        judge_factor(l, steps(l, a))
+    } else {
+        Factor2 {
             code: INPUT_NOT_FINITE,
             pivot: 0,
             factor: l,
-        };
+        }
     }
-    judge_factor(l, steps(l, a))
 }
 
 // Forward substitution for L c = b, then backward for L' x = c.
@@ -130,16 +132,14 @@ fn substitute(l: Sym2, b: [Real; 2]) -> [Real; 2]
 }
 
 fn judged_solution(l: Sym2, b: [Real; 2]) -> Numbers2
-    ensures { λ r. ⌜ r ≡ numbers2 (judgedSolution F 2 (l .«data») b (solution2Of F (l .«data») b)) ⌝ }
+    ensures { λ r. ⌜ r ≡ numbers2 (judgedSolution F 2 (solution2Of F) (l .«data») b) ⌝ }
 {
     let d = l.data;
-    if !all_finite(&d) {
-        return refuse2(INPUT_NOT_FINITE);
+    if both_finite(&d, &b) {
+        judge2(substitute(l, b))
+    } else {
+        refuse2(INPUT_NOT_FINITE)
     }
-    if !all_finite(&b) {
-        return refuse2(INPUT_NOT_FINITE);
-    }
-    judge2(substitute(l, b))
 }
 
 // The solution of L L' x = b, on the first 2 places of slices of 2 or more.
@@ -156,7 +156,7 @@ pub fn cholesky_2x2_explicit_solve(l: Sym2, x: &mut [Real], b: &[Real]) -> u8
 }
 
 fn refused(code: u8, pivot: u8) -> Solved2
-    ensures { λ r. ⌜ r ≡ solved2 (refusedSolved F 3 2 code pivot) ⌝ }
+    ensures { λ r. ⌜ r ≡ solved2 (refusedSolved F 2 pivot code) ⌝ }
 {
     Solved2 {
         code,
@@ -167,7 +167,7 @@ fn refused(code: u8, pivot: u8) -> Solved2
 }
 
 fn judge_solved(r: Factor2, x: [Real; 2]) -> Solved2
-    ensures { λ q. ⌜ q ≡ solved2 (judgedSolved F 3 2 (ofFactor2 r) x) ⌝ }
+    ensures { λ q. ⌜ q ≡ solved2 (judgedSolved F 2 (ofFactor2 r) x) ⌝ }
 {
     let code = r.code;
     let l = r.factor;
@@ -175,18 +175,15 @@ fn judge_solved(r: Factor2, x: [Real; 2]) -> Solved2
     if code != DONE {
         return refused(code, r.pivot);
     }
-    if !all_finite(&d) {
-        return refused(ANSWER_NOT_FINITE, 0);
+    if both_finite(&d, &x) {
+        return Solved2 {
+            code: DONE,
+            pivot: 0,
+            factor: l,
+            solution: x,
+        };
     }
-    if !all_finite(&x) {
-        return refused(ANSWER_NOT_FINITE, 0);
-    }
-    Solved2 {
-        code: DONE,
-        pivot: 0,
-        factor: l,
-        solution: x,
-    }
+    refused(ANSWER_NOT_FINITE, 0)
 }
 
 // The factor of a, and the solution of a x = b.
@@ -194,13 +191,10 @@ pub fn factor_and_solve(a: Sym2, b: [Real; 2]) -> Solved2
     ensures { λ r. ⌜ r ≡ solved2 (factorAndSolve2Of F (a .«data») b) ⌝ }
 {
     let d = a.data;
-    if !all_finite(&d) {
-        return refused(INPUT_NOT_FINITE, 0);
+    if both_finite(&d, &b) {
+        let r = steps(Sym2 { data: [0.0; 3] }, a);
+        let l = r.factor;
+        return judge_solved(r, substitute(l, b));
     }
-    if !all_finite(&b) {
-        return refused(INPUT_NOT_FINITE, 0);
-    }
-    let r = steps(Sym2 { data: [0.0; 3] }, a);
-    let l = r.factor;
-    judge_solved(r, substitute(l, b))
+    refused(INPUT_NOT_FINITE, 0)
 }

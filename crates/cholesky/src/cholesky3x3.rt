@@ -3,6 +3,7 @@ use crate::pivot::Pivot;
 use crate::pivot::pivot_step;
 use crate::pivot::refusal_of;
 use float::sign::all_finite;
+use float::sign::both_finite;
 use float::width::Real;
 use matrix::answers::Numbers3;
 use matrix::answers::judge3;
@@ -118,14 +119,15 @@ pub fn cholesky_3x3_explicit_factor(l: Sym3, a: Sym3) -> Factor3
     ensures { λ r. ⌜ r ≡ factor3 (factor3Of F (l .«data») (a .«data»)) ⌝ }
 {
     let d = a.data;
-    if !all_finite(&d) {
-        return Factor3 {
+    if all_finite(&d) {
+        judge_factor(l, steps(l, a))
+    } else {
+        Factor3 {
             code: INPUT_NOT_FINITE,
             pivot: 0,
             factor: l,
-        };
+        }
     }
-    judge_factor(l, steps(l, a))
 }
 
 // Forward substitution for L c = b, then backward for L' x = c.
@@ -143,16 +145,14 @@ fn substitute(l: Sym3, b: [Real; 3]) -> [Real; 3]
 }
 
 fn judged_solution(l: Sym3, b: [Real; 3]) -> Numbers3
-    ensures { λ r. ⌜ r ≡ numbers3 (judgedSolution F 3 (l .«data») b (solution3Of F (l .«data») b)) ⌝ }
+    ensures { λ r. ⌜ r ≡ numbers3 (judgedSolution F 3 (solution3Of F) (l .«data») b) ⌝ }
 {
     let d = l.data;
-    if !all_finite(&d) {
-        return refuse3(INPUT_NOT_FINITE);
+    if both_finite(&d, &b) {
+        judge3(substitute(l, b))
+    } else {
+        refuse3(INPUT_NOT_FINITE)
     }
-    if !all_finite(&b) {
-        return refuse3(INPUT_NOT_FINITE);
-    }
-    judge3(substitute(l, b))
 }
 
 // The solution of L L' x = b, on the first 3 places of slices of 3 or more.
@@ -169,7 +169,7 @@ pub fn cholesky_3x3_explicit_solve(l: Sym3, x: &mut [Real], b: &[Real]) -> u8
 }
 
 fn refused(code: u8, pivot: u8) -> Solved3
-    ensures { λ r. ⌜ r ≡ solved3 (refusedSolved F 6 3 code pivot) ⌝ }
+    ensures { λ r. ⌜ r ≡ solved3 (refusedSolved F 3 pivot code) ⌝ }
 {
     Solved3 {
         code,
@@ -180,7 +180,7 @@ fn refused(code: u8, pivot: u8) -> Solved3
 }
 
 fn judge_solved(r: Factor3, x: [Real; 3]) -> Solved3
-    ensures { λ q. ⌜ q ≡ solved3 (judgedSolved F 6 3 (ofFactor3 r) x) ⌝ }
+    ensures { λ q. ⌜ q ≡ solved3 (judgedSolved F 3 (ofFactor3 r) x) ⌝ }
 {
     let code = r.code;
     let l = r.factor;
@@ -188,18 +188,15 @@ fn judge_solved(r: Factor3, x: [Real; 3]) -> Solved3
     if code != DONE {
         return refused(code, r.pivot);
     }
-    if !all_finite(&d) {
-        return refused(ANSWER_NOT_FINITE, 0);
+    if both_finite(&d, &x) {
+        return Solved3 {
+            code: DONE,
+            pivot: 0,
+            factor: l,
+            solution: x,
+        };
     }
-    if !all_finite(&x) {
-        return refused(ANSWER_NOT_FINITE, 0);
-    }
-    Solved3 {
-        code: DONE,
-        pivot: 0,
-        factor: l,
-        solution: x,
-    }
+    refused(ANSWER_NOT_FINITE, 0)
 }
 
 // The factor of a, and the solution of a x = b.
@@ -207,13 +204,10 @@ pub fn factor_and_solve(a: Sym3, b: [Real; 3]) -> Solved3
     ensures { λ r. ⌜ r ≡ solved3 (factorAndSolve3Of F (a .«data») b) ⌝ }
 {
     let d = a.data;
-    if !all_finite(&d) {
-        return refused(INPUT_NOT_FINITE, 0);
+    if both_finite(&d, &b) {
+        let r = steps(Sym3 { data: [0.0; 6] }, a);
+        let l = r.factor;
+        return judge_solved(r, substitute(l, b));
     }
-    if !all_finite(&b) {
-        return refused(INPUT_NOT_FINITE, 0);
-    }
-    let r = steps(Sym3 { data: [0.0; 6] }, a);
-    let l = r.factor;
-    judge_solved(r, substitute(l, b))
+    refused(INPUT_NOT_FINITE, 0)
 }

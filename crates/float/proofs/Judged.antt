@@ -1,7 +1,7 @@
 -- A branch on the finite test is one way through `judged`, and what holds of both ways holds of it: `judged` is a choice by that test.
 use mathlib.Core.Path.{_≡_, refl, sym, _∙_}
 use mathlib.Core.Bool.{Bool, true, false}
-use mathlib.Core.List.{List}
+use mathlib.Core.List.{List, []}
 use Prim.Native.Nat.{ℕ}
 use lib.Ieee.{Float}
 use Rattle.float.specs.Sign.{allFinite}
@@ -21,6 +21,11 @@ module _ {A : Type 0} (refuse : ℕ → A) (k : ℕ) (xs : List Float) (r : A) w
   pub by-judged : (P : A → Type 0) → (allFinite xs ≡ true → P r) → (allFinite xs ≡ false → P (refuse k)) → P (judged refuse k xs r)
   unfolding judged
   by-judged P h g = by-test P (allFinite xs) r (refuse k) h g
+
+-- of no numbers there is nothing to refuse
+pub unjudged : {A : Type 0} (refuse : ℕ → A) (k : ℕ) (r : A) → judged refuse k [] r ≡ r
+unfolding judged allFinite
+unjudged refuse k r = refl
 
 -- the three ways through a call
 pub by-call : {A : Type 0} (refuse : ℕ → A) (used made : List Float) (r : A) (P : A → Type 0)

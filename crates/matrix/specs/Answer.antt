@@ -1,13 +1,13 @@
 -- Answers: a code and a value. Where a call is refused the code says why, and the value is made of zeros. Definitions only.
 use mathlib.Core.Path.{_≡_}
-use mathlib.Core.List.{List, _++_}
+use mathlib.Core.List.{List, [], _∷_, _++_}
 use Prim.Native.Nat.{ℕ}
 use lib.Dec.{leb, eqb}
 use lib.ListN.{length, drop, replicate}
 use lib.Ieee.{Float, Format}
 use Rattle.float.specs.Choice.{pick}
 use Rattle.float.specs.Constants.{zeroF}
-use Rattle.float.specs.Sign.{finite, allFinite}
+use Rattle.float.specs.Judged.{judged, judgedCall}
 use Rattle.matrix.specs.declared.answers.Place.{Place}
 use Rattle.matrix.specs.declared.answers.Place.the-variants as place-is
 use Rattle.matrix.specs.declared.answers.Entry.{Entry}
@@ -43,19 +43,30 @@ scalar f scalar-is.InputLength = refused 1 (zeroF f)
 scalar f scalar-is.InputNotFinite = refused 5 (zeroF f)
 scalar f scalar-is.AnswerNotFinite = refused 7 (zeroF f)
 
--- ---- numbers that were worked out: 7 where one is not finite
+-- ---- one number, or n of them, worked out: 7 where one is not finite
 
 abbrev pub zeros : Format → ℕ → List Float
 zeros f n = replicate n (zeroF f)
 
-unfoldable pub judged : Format → Float → Answer Float
-judged f x = pick (finite x) (done x) (refused 7 (zeroF f))
+abbrev pub refusedOne : Format → ℕ → Answer Float
+refusedOne f k = refused k (zeroF f)
 
 abbrev pub refusedAll : Format → ℕ → ℕ → Answer (List Float)
 refusedAll f n k = refused k (zeros f n)
 
-unfoldable pub judgedAll : Format → ℕ → List Float → Answer (List Float)
-judgedAll f n xs = pick (allFinite xs) (done xs) (refusedAll f n 7)
+abbrev pub judgedOne : Format → Float → Answer Float
+judgedOne f x = judged (refusedOne f) 7 (x ∷ []) (done x)
+
+abbrev pub judgedAll : Format → ℕ → List Float → Answer (List Float)
+judgedAll f n xs = judged (refusedAll f n) 7 xs (done xs)
+
+-- ---- the same worked out of the numbers `used`: 5 where one of these is not finite
+
+abbrev pub answerOne : Format → List Float → Float → Answer Float
+answerOne f used x = judgedCall (refusedOne f) used (x ∷ []) (done x)
+
+abbrev pub answerAll : Format → ℕ → List Float → List Float → Answer (List Float)
+answerAll f n used xs = judgedCall (refusedAll f n) used xs (done xs)
 
 -- ---- the structs that hold them
 

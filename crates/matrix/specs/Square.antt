@@ -1,13 +1,12 @@
 -- Square matrices of size n, column by column. Definitions only.
-use mathlib.Core.List.{List}
+use mathlib.Core.List.{List, _++_}
 use Prim.Native.Nat.{ℕ, zero, suc, _*_, _/_, _%_}
 use lib.Dec.{ltb, eqb}
 use lib.ListN.{length}
 use lib.Ieee.{Float, Format, add, mul, neg}
 use Rattle.float.specs.Choice.{pick}
 use Rattle.float.specs.Constants.{zeroF, oneF}
-use Rattle.float.specs.Sign.{allFinite}
-use Rattle.matrix.specs.Answer.{Answer, done, refused, refusedAll, judgedAll, putOf}
+use Rattle.matrix.specs.Answer.{Answer, done, refused, answerAll, putOf}
 use Rattle.matrix.specs.Places.{at, tabulate, squareIndex, inside}
 use Rattle.matrix.specs.declared.square.Mat2.{Mat2}
 use Rattle.matrix.specs.declared.square.Mat3.{Mat3}
@@ -71,9 +70,8 @@ abbrev pub timesOf : Format → ℕ → List Float → List Float → List Float
 timesOf f n xs x = tabulate n (λ (r : ℕ). sumOf f n (λ (c : ℕ). mul f (entryOf n xs r c) (at x c)))
 
 unfoldable pub productOf : Format → ℕ → List Float → List Float → Answer (List Float)
-productOf f n xs x = pick (allFinite xs) (pick (allFinite x) (judgedAll f n (timesOf f n xs x)) (refusedAll f n 5)) (refusedAll f n 5)
+productOf f n xs x = answerAll f n (xs ++ x) (timesOf f n xs x)
 
 -- on slices, both of length n
 unfoldable pub mulOf : Format → ℕ → List Float → List Float → List Float → Answer (List Float)
-unfolding putOf productOf
 mulOf f n xs x y = pick (eqb (length y) n) (pick (eqb (length x) n) (putOf n (productOf f n xs x) y) (refused 1 y)) (refused 2 y)

@@ -1,5 +1,5 @@
 -- Symmetric matrices by their upper triangle. Definitions only.
-use mathlib.Core.List.{List, [], _∷_}
+use mathlib.Core.List.{List, [], _∷_, _++_}
 use Prim.Native.Nat.{ℕ}
 use lib.Dec.{leb}
 use lib.ListN.{length, take}
@@ -7,8 +7,7 @@ use lib.Ieee.{Float, Format, add, mul}
 use Rattle.float.specs.Choice.{pick}
 use Rattle.float.specs.Constants.{zeroF, twoF}
 use Rattle.float.specs.Root.{rootOf}
-use Rattle.float.specs.Sign.{finite, allFinite}
-use Rattle.matrix.specs.Answer.{Answer, refused, refusedAll, judged, judgedAll, putOf}
+use Rattle.matrix.specs.Answer.{Answer, refused, refusedOne, answerOne, answerAll, putOf}
 use Rattle.matrix.specs.Places.{at, tabulate, triangular}
 use Rattle.matrix.specs.declared.symmetric.Sym2.{Sym2}
 use Rattle.matrix.specs.declared.symmetric.Sym3.{Sym3}
@@ -39,8 +38,7 @@ abbrev pub scaledOf : Format → ℕ → Float → List Float → List Float
 scaledOf f n c xs = tabulate (triangular n) (λ (i : ℕ). mul f c (at xs i))
 
 unfoldable pub scaledFromOf : Format → ℕ → Float → List Float → Answer (List Float)
-scaledFromOf f n c xs =
-    pick (finite c) (pick (allFinite xs) (judgedAll f (triangular n) (scaledOf f n c xs)) (refusedAll f (triangular n) 5)) (refusedAll f (triangular n) 5)
+scaledFromOf f n c xs = answerAll f (triangular n) (c ∷ xs) (scaledOf f n c xs)
 
 -- ---- size 3, in the order of operations of core.rs
 
@@ -61,11 +59,10 @@ abbrev pub symTimesOf : Format → List Float → List Float → List Float
 symTimesOf f h x = row1Of f h x ∷ row2Of f h x ∷ row3Of f h x ∷ []
 
 unfoldable pub symProductOf : Format → List Float → List Float → Answer (List Float)
-symProductOf f h x = pick (allFinite h) (pick (allFinite x) (judgedAll f 3 (symTimesOf f h x)) (refusedAll f 3 5)) (refusedAll f 3 5)
+symProductOf f h x = answerAll f 3 (h ++ x) (symTimesOf f h x)
 
 -- on slices of three places or more, of which the first three count
 unfoldable pub symMulOf : Format → List Float → List Float → List Float → Answer (List Float)
-unfolding putOf symProductOf
 symMulOf f h x y = pick (leb 3 (length y)) (pick (leb 3 (length x)) (putOf 3 (symProductOf f h (take 3 x)) y) (refused 1 y)) (refused 2 y)
 
 -- y' H x
@@ -74,13 +71,10 @@ quadOf f h y x =
     add f (add f (add f (zeroF f) (mul f (at y 0) (row1Of f h x))) (mul f (at y 1) (row2Of f h x))) (mul f (at y 2) (row3Of f h x))
 
 unfoldable pub quadJudgedOf : Format → List Float → List Float → List Float → Answer Float
-unfolding judged
-quadJudgedOf f h y x =
-    pick (allFinite h) (pick (allFinite y) (pick (allFinite x) (judged f (quadOf f h y x)) (refused 5 (zeroF f))) (refused 5 (zeroF f))) (refused 5 (zeroF f))
+quadJudgedOf f h y x = answerOne f (h ++ (y ++ x)) (quadOf f h y x)
 
 unfoldable pub quadFormOf : Format → List Float → List Float → List Float → Answer Float
-unfolding quadJudgedOf
-quadFormOf f h y x = pick (leb 3 (length y)) (pick (leb 3 (length x)) (quadJudgedOf f h (take 3 y) (take 3 x)) (refused 1 (zeroF f))) (refused 1 (zeroF f))
+quadFormOf f h y x = pick (leb 3 (length y)) (pick (leb 3 (length x)) (quadJudgedOf f h (take 3 y) (take 3 x)) (refusedOne f 1)) (refusedOne f 1)
 
 -- a a + b b + c c
 abbrev pub squaresOf : Format → Float → Float → Float → Float
@@ -92,5 +86,4 @@ normOf f h =
     rootOf f (add f (add f (zeroF f) (squaresOf f (at h 0) (at h 2) (at h 5))) (mul f (squaresOf f (at h 1) (at h 3) (at h 4)) (twoF f)))
 
 unfoldable pub normFroOf : Format → List Float → Answer Float
-unfolding judged
-normFroOf f h = pick (allFinite h) (judged f (normOf f h)) (refused 5 (zeroF f))
+normFroOf f h = answerOne f h (normOf f h)

@@ -3,11 +3,10 @@ use crate::codes::ANSWER_NOT_FINITE;
 use crate::codes::DONE;
 use crate::codes::OUTPUT_LENGTH;
 use float::sign::all_finite;
-use float::sign::is_finite;
 use float::width::Real;
 ghost use mathlib.Core.Path.{_≡_};
 ghost use Rattle.float.specs.Width.{F};
-ghost use Rattle.matrix.specs.Answer.{Outcome, judged, judgedAll, refusedAll, putOf, numbers2, numbers3, ofNumbers2, ofNumbers3, scalar};
+ghost use Rattle.matrix.specs.Answer.{Outcome, judgedOne, judgedAll, refusedAll, putOf, numbers2, numbers3, ofNumbers2, ofNumbers3, scalar};
 
 // A place among the numbers of a matrix.
 pub enum Place {
@@ -41,9 +40,10 @@ pub struct Numbers3 {
 
 // A number that was worked out is handed on if it is finite.
 pub fn judge(x: Real) -> Scalar
-    ensures { λ r. ⌜ scalar F r ≡ judged F x ⌝ }
+    ensures { λ r. ⌜ scalar F r ≡ judgedOne F x ⌝ }
 {
-    if is_finite(x) {
+    let xs = [x];
+    if all_finite(&xs) {
         Scalar::Number(x)
     } else {
         Scalar::AnswerNotFinite

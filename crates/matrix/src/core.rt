@@ -11,6 +11,8 @@ use crate::codes::OUTPUT_LENGTH;
 use crate::symmetric::Sym3;
 use float::root::root;
 use float::sign::all_finite;
+use float::sign::both_finite;
+use float::sign::three_finite;
 use float::width::Real;
 ghost use mathlib.Core.Path.{_≡_};
 ghost use Rattle.float.specs.Width.{F};
@@ -64,16 +66,11 @@ fn quad_judged(h: Sym3, y: [Real; 3], x: [Real; 3]) -> Scalar
     ensures { λ r. ⌜ scalar F r ≡ quadJudgedOf F (h .«data») y x ⌝ }
 {
     let d = h.data;
-    if !all_finite(&d) {
-        return Scalar::InputNotFinite;
+    if three_finite(&d, &y, &x) {
+        judge(quad(h, y, x))
+    } else {
+        Scalar::InputNotFinite
     }
-    if !all_finite(&y) {
-        return Scalar::InputNotFinite;
-    }
-    if !all_finite(&x) {
-        return Scalar::InputNotFinite;
-    }
-    judge(quad(h, y, x))
 }
 
 impl Sym3 {
@@ -82,13 +79,11 @@ impl Sym3 {
         ensures { λ r. ⌜ r ≡ numbers3 (symProductOf F (self .«data») x) ⌝ }
     {
         let d = self.data;
-        if !all_finite(&d) {
-            return refuse3(INPUT_NOT_FINITE);
+        if both_finite(&d, &x) {
+            judge3(times(self, x))
+        } else {
+            refuse3(INPUT_NOT_FINITE)
         }
-        if !all_finite(&x) {
-            return refuse3(INPUT_NOT_FINITE);
-        }
-        judge3(times(self, x))
     }
 
     // y = H x, on the first three places of slices of three or more.
@@ -121,9 +116,10 @@ impl Sym3 {
         ensures { λ r. ⌜ scalar F r ≡ normFroOf F (self .«data») ⌝ }
     {
         let d = self.data;
-        if !all_finite(&d) {
-            return Scalar::InputNotFinite;
+        if all_finite(&d) {
+            judge(norm(self))
+        } else {
+            Scalar::InputNotFinite
         }
-        judge(norm(self))
     }
 }

@@ -14,7 +14,7 @@ use crate::codes::INPUT_LENGTH;
 use crate::codes::INPUT_NOT_FINITE;
 use crate::codes::OUTPUT_LENGTH;
 use crate::codes::OUTSIDE;
-use float::sign::all_finite;
+use float::sign::both_finite;
 use float::width::Real;
 ghost use mathlib.Core.Path.{_≡_};
 ghost use Prim.Native.Nat.{_≤_, _<_};
@@ -227,13 +227,11 @@ impl Mat2 {
         ensures { λ r. ⌜ r ≡ numbers2 (productOf F 2 (self .«data») x) ⌝ }
     {
         let d = self.data;
-        if !all_finite(&d) {
-            return refuse2(INPUT_NOT_FINITE);
+        if both_finite(&d, &x) {
+            judge2(self.times(x))
+        } else {
+            refuse2(INPUT_NOT_FINITE)
         }
-        if !all_finite(&x) {
-            return refuse2(INPUT_NOT_FINITE);
-        }
-        judge2(self.times(x))
     }
 
     // y = A x, on slices of 2 places.
@@ -455,13 +453,11 @@ impl Mat3 {
         ensures { λ r. ⌜ r ≡ numbers3 (productOf F 3 (self .«data») x) ⌝ }
     {
         let d = self.data;
-        if !all_finite(&d) {
-            return refuse3(INPUT_NOT_FINITE);
+        if both_finite(&d, &x) {
+            judge3(self.times(x))
+        } else {
+            refuse3(INPUT_NOT_FINITE)
         }
-        if !all_finite(&x) {
-            return refuse3(INPUT_NOT_FINITE);
-        }
-        judge3(self.times(x))
     }
 
     // y = A x, on slices of 3 places.

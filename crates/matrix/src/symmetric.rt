@@ -7,12 +7,12 @@ use crate::codes::INPUT_NOT_FINITE;
 use crate::codes::OUTSIDE;
 use crate::square::Size;
 use float::sign::all_finite;
-use float::sign::is_finite;
+use float::sign::both_finite;
 use float::width::Real;
 ghost use mathlib.Core.Path.{_≡_};
 ghost use Prim.Native.Nat.{_≤_};
 ghost use Rattle.float.specs.Width.{F};
-ghost use Rattle.matrix.specs.Answer.{place, entry, zeros, refusedAll};
+ghost use Rattle.matrix.specs.Answer.{place, entry, zeros, refusedAll, judgedAll};
 ghost use Rattle.matrix.specs.Places.{packedIndex, indexOf, readOf, writeOf};
 ghost use Rattle.matrix.specs.Symmetric.{sym2, sym3, sym2Answer, sym3Answer, scaledOf, scaledFromOf};
 
@@ -118,21 +118,12 @@ impl Sym2 {
     pub fn scaled_from(c: Real, b: Sym2) -> Sym2Answer
         ensures { λ a. ⌜ a ≡ sym2Answer (scaledFromOf F 2 c (b .«data»)) ⌝ }
     {
+        let cs = [c];
         let d = b.data;
-        if !is_finite(c) {
-            return refused_sym2(INPUT_NOT_FINITE);
-        }
-        if !all_finite(&d) {
-            return refused_sym2(INPUT_NOT_FINITE);
-        }
-        let s = scaled2(c, b);
-        let e = s.data;
-        if !all_finite(&e) {
-            return refused_sym2(ANSWER_NOT_FINITE);
-        }
-        Sym2Answer {
-            code: DONE,
-            matrix: s,
+        if both_finite(&cs, &d) {
+            judge_sym2(scaled2(c, b))
+        } else {
+            refused_sym2(INPUT_NOT_FINITE)
         }
     }
 }
@@ -143,6 +134,20 @@ fn refused_sym2(code: u8) -> Sym2Answer
     Sym2Answer {
         code,
         matrix: Sym2 { data: [0.0; 3] },
+    }
+}
+
+fn judge_sym2(s: Sym2) -> Sym2Answer
+    ensures { λ a. ⌜ a ≡ sym2Answer (judgedAll F 3 (s .«data»)) ⌝ }
+{
+    let d = s.data;
+    if all_finite(&d) {
+        Sym2Answer {
+            code: DONE,
+            matrix: s,
+        }
+    } else {
+        refused_sym2(ANSWER_NOT_FINITE)
     }
 }
 
@@ -221,21 +226,12 @@ impl Sym3 {
     pub fn scaled_from(c: Real, b: Sym3) -> Sym3Answer
         ensures { λ a. ⌜ a ≡ sym3Answer (scaledFromOf F 3 c (b .«data»)) ⌝ }
     {
+        let cs = [c];
         let d = b.data;
-        if !is_finite(c) {
-            return refused_sym3(INPUT_NOT_FINITE);
-        }
-        if !all_finite(&d) {
-            return refused_sym3(INPUT_NOT_FINITE);
-        }
-        let s = scaled3(c, b);
-        let e = s.data;
-        if !all_finite(&e) {
-            return refused_sym3(ANSWER_NOT_FINITE);
-        }
-        Sym3Answer {
-            code: DONE,
-            matrix: s,
+        if both_finite(&cs, &d) {
+            judge_sym3(scaled3(c, b))
+        } else {
+            refused_sym3(INPUT_NOT_FINITE)
         }
     }
 }
@@ -246,6 +242,20 @@ fn refused_sym3(code: u8) -> Sym3Answer
     Sym3Answer {
         code,
         matrix: Sym3 { data: [0.0; 6] },
+    }
+}
+
+fn judge_sym3(s: Sym3) -> Sym3Answer
+    ensures { λ a. ⌜ a ≡ sym3Answer (judgedAll F 6 (s .«data»)) ⌝ }
+{
+    let d = s.data;
+    if all_finite(&d) {
+        Sym3Answer {
+            code: DONE,
+            matrix: s,
+        }
+    } else {
+        refused_sym3(ANSWER_NOT_FINITE)
     }
 }
 

@@ -1,17 +1,18 @@
--- Only a whole factor is judged.
+-- Only a whole factor is judged: of one that stopped there is nothing to test.
 use borrow.Author.Needs.{needs}
 use borrow.Author.Tests.{eq-eqb, ne-eqb}
+use Rattle.float.proofs.Judged.{stands, refuses, unjudged}
 use Rattle.cholesky.proofs.cholesky3x3.judge_factor.Statement.{statement}
 use Rattle.cholesky.proofs.cholesky3x3.judge_factor.Tie as tie
 
 returns : tie.Need-returns
-returns c = rw (ne-eqb _ 0 (c .if1 .taken))
+returns c = rw (ne-eqb _ 0 (c .if1 .taken), unjudged)
 
 returns-2 : tie.Need-returns-2
-returns-2 c = rw (eq-eqb _ 0 (c .before .before .before .if1 .left), ← c .before .all-finite .ensures, c .if2 .taken)
+returns-2 c = rw (eq-eqb _ 0 (c .before .before .before .if1 .left), stands _ _ _ _ (c .before .all-finite .ensures) (c .if2 .taken))
 
 returns-3 : tie.Need-returns-3
-returns-3 c = rw (eq-eqb _ 0 (c .before .before .before .if1 .left), ← c .before .all-finite .ensures, c .if2 .left)
+returns-3 c = rw (eq-eqb _ 0 (c .before .before .before .if1 .left), refuses _ _ _ _ (c .before .all-finite .ensures) (c .if2 .left))
 
 pub judge-factor-spec : {M : Type 1} → statement M
 judge-factor-spec =

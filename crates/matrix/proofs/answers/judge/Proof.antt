@@ -1,17 +1,14 @@
--- The finite test picks the case.
-use mathlib.Core.Path.{sym, _∙_}
+-- A way for each answer of the finite test.
 use borrow.Author.Needs.{needs}
-use Rattle.matrix.specs.Answer.{judged}
+use Rattle.float.proofs.Judged.{stands, refuses}
 use Rattle.matrix.proofs.answers.judge.Statement.{statement}
 use Rattle.matrix.proofs.answers.judge.Tie as tie
 
 returns : tie.Need-returns
-unfolding judged
-returns c = rw (sym (c .before .is-finite .ensures) ∙ c .if1 .taken)
+returns c = rw (stands _ _ _ _ (c .before .all-finite .ensures) (c .if1 .taken))
 
 returns-2 : tie.Need-returns-2
-unfolding judged
-returns-2 c = rw (sym (c .before .is-finite .ensures) ∙ c .if1 .left)
+returns-2 c = rw (refuses _ _ _ _ (c .before .all-finite .ensures) (c .if1 .left))
 
 pub judge-spec : {M : Type 1} → statement M
-judge-spec = tie.close (tie.spec (λ c κs. search needs) returns returns-2)
+judge-spec = tie.close (tie.spec (λ c. search needs) (λ c κs. search needs) returns returns-2)

@@ -18,9 +18,12 @@ returns-2 c = rw (eq-eqb _ 3 (c .before .if1 .left), ne-eqb _ 3 (c .if2 .taken))
 returns-3 : tie.Need-returns-3
 unfolding mulOf
 returns-3 c =
-    let l = c .before .before .before .before .before .before .before .before .before .if1 .left in
-    let h = c .before .before .before .before .before .before .before .before .if2 .left in
-    rw (eq-eqb _ 3 l, eq-eqb _ 3 h) (rw (c .before .before .before .product .ensures, tabulate-all 3 (c .before .before .before .before .before .before .before .before .before .before .before .before .args .x .now) h) at (c .before .before .put3 .ensures))
+    let past = c .before .before .before .before .before .before .before .before in
+    let l = past .before .if1 .left in
+    let h = past .if2 .left in
+    let all = tabulate-all 3 (past .before .before .before .before .args .x .now) h in
+    rw (eq-eqb _ 3 l, eq-eqb _ 3 h)
+    (rw (c .before .before .before .product .ensures, all) at (c .before .before .put3 .ensures))
 
 pub mul-spec : {M : Type 1} → statement M
 mul-spec =

@@ -1,40 +1,29 @@
--- Each return has passed the tests before it, in the order of the definition.
+-- Where all numbers are finite the product is judged, and else refused.
 use borrow.Author.Needs.{needs}
+use Rattle.float.proofs.Judged.{stands, refuses}
 use Rattle.matrix.specs.Symmetric.{symProductOf}
-use Rattle.float.proofs.Branches.{passes, fails}
 use Rattle.matrix.proofs.symmetric.Sym3.product.Statement.{statement}
 use Rattle.matrix.proofs.symmetric.Sym3.product.Tie as tie
 
 returns : tie.Need-returns
 unfolding symProductOf
-returns c = rw (fails (c .before .before .all-finite .ensures) (c .before .if1 .taken)) (c .refuse3 .ensures)
+returns c =
+    rw (stands _ _ _ _ (c .before .before .before .both-finite .ensures) (c .before .before .if1 .taken), ← c .before .times .ensures)
+    (c .judge3 .ensures)
 
 returns-2 : tie.Need-returns-2
 unfolding symProductOf
-returns-2 c =
-    let past = c .before .before .before .before in
-    rw (passes (past .before .all-finite .ensures) (past .if1 .left), fails (c .before .before .all-finite2 .ensures) (c .before .if2 .taken)) (c .refuse32 .ensures)
-
-returns-3 : tie.Need-returns-3
-unfolding symProductOf
-returns-3 c =
-    let past2 = c .before .before in
-    let past1 = past2 .before .before .before in
-    rw (passes (past1 .before .all-finite .ensures) (past1 .if1 .left), passes (past2 .before .all-finite2 .ensures) (past2 .if2 .left), ← c .before .times .ensures)
-    (c .judge3 .ensures)
+returns-2 c = rw (refuses _ _ _ _ (c .before .before .both-finite .ensures) (c .before .if1 .left)) (c .refuse3 .ensures)
 
 pub product-spec : {M : Type 1} → statement M
 product-spec =
     tie.close
     (tie.spec
     (λ c. search needs)
-    (λ c κs. search needs)
-    (λ c κs. search needs)
-    returns
     (λ c. search needs)
     (λ c κs. search needs)
     (λ c κs. search needs)
-    returns-2
     (λ c κs. search needs)
     (λ c κs. search needs)
-    returns-3)
+    returns
+    returns-2)
