@@ -9,11 +9,18 @@ use Rattle.eigen.proofs.eigen2x2.eigvals.Tie as tie
 
 returns : tie.Need-returns
 unfolding eigvals2Of valuesEnd2Of
-returns c = rw (c .judge-values .ensures, c .before .before .eig2 .ensures) (ap eigvals2 (sym (stands (refusedValues2 F) 5 (c .before .before .before .before .before .before .before .args .a .«data») _ (c .before .before .before .before .all-finite .ensures) (c .before .before .before .if1 .taken))))
+returns c =
+    let t = c .before .before .before .before in
+    let a = t .before .before .before .args .a .«data» in
+    rw (c .judge-values .ensures, c .before .before .eig2 .ensures)
+    (ap eigvals2 (sym (stands (refusedValues2 F) 5 a _ (t .all-finite .ensures) (c .before .before .before .if1 .taken))))
 
 returns-2 : tie.Need-returns-2
 unfolding eigvals2Of valuesEnd2Of
-returns-2 c = c .refused-values .ensures ∙ ap eigvals2 (sym (refuses (refusedValues2 F) 5 (c .before .before .before .before .before .args .a .«data») _ (c .before .before .all-finite .ensures) (c .before .if1 .left)))
+returns-2 c =
+    let t = c .before .before in
+    let a = t .before .before .before .args .a .«data» in
+    c .refused-values .ensures ∙ ap eigvals2 (sym (refuses (refusedValues2 F) 5 a _ (t .all-finite .ensures) (c .before .if1 .left)))
 
 pub eigvals-spec : {M : Type 1} → statement M
 eigvals-spec =

@@ -15,7 +15,8 @@ returns c =
 returns-2 : tie.Need-returns-2
 returns-2 c =
     let x = ofAxes2 (c .before .before .before .before .before .before .before .before .args .x) in
-    c .refused .ensures ∙ ap eigen2 (sym (refuses (refused2 F) 7 (numbers2Of x) (answer2Of x) (c .before .before .both-finite .ensures) (c .before .if1 .left)))
+    c .refused .ensures
+    ∙ ap eigen2 (sym (refuses (refused2 F) 7 (numbers2Of x) (answer2Of x) (c .before .before .both-finite .ensures) (c .before .if1 .left)))
 
 pub judge-spec : {M : Type 1} → statement M
 judge-spec =

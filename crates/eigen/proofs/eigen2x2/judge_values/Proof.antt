@@ -15,7 +15,8 @@ returns c =
 returns-2 : tie.Need-returns-2
 returns-2 c =
     let v = c .before .before .before .before .args .t1 in
-    c .refused-values .ensures ∙ ap eigvals2 (sym (refuses (refusedValues2 F) 7 v (values2Of v) (c .before .before .all-finite .ensures) (c .before .if1 .left)))
+    c .refused-values .ensures
+    ∙ ap eigvals2 (sym (refuses (refusedValues2 F) 7 v (values2Of v) (c .before .before .all-finite .ensures) (c .before .if1 .left)))
 
 pub judge-values-spec : {M : Type 1} → statement M
 judge-values-spec =

@@ -9,11 +9,18 @@ use Rattle.eigen.proofs.eigen3x3.eigvals_jacobi.Tie as tie
 
 returns : tie.Need-returns
 unfolding eigvalsOf bareEndOf
-returns c = rw (c .judge-values .ensures, c .before .work-values .ensures) (ap eigvals3 (sym (stands (refusedValues F) 5 (c .before .before .before .before .before .before .args .a .«data») _ (c .before .before .before .all-finite .ensures) (c .before .before .if1 .taken))))
+returns c =
+    let t = c .before .before .before in
+    let a = t .before .before .before .args .a .«data» in
+    rw (c .judge-values .ensures, c .before .work-values .ensures)
+    (ap eigvals3 (sym (stands (refusedValues F) 5 a _ (t .all-finite .ensures) (c .before .before .if1 .taken))))
 
 returns-2 : tie.Need-returns-2
 unfolding eigvalsOf bareEndOf
-returns-2 c = c .refused-values .ensures ∙ ap eigvals3 (sym (refuses (refusedValues F) 5 (c .before .before .before .before .before .args .a .«data») _ (c .before .before .all-finite .ensures) (c .before .if1 .left)))
+returns-2 c =
+    let t = c .before .before in
+    let a = t .before .before .before .args .a .«data» in
+    c .refused-values .ensures ∙ ap eigvals3 (sym (refuses (refusedValues F) 5 a _ (t .all-finite .ensures) (c .before .if1 .left)))
 
 pub eigvals-jacobi-spec : {M : Type 1} → statement M
 eigvals-jacobi-spec =

@@ -9,15 +9,17 @@ use Rattle.eigen.proofs.eigen3x3.judge.Tie as tie
 
 returns : tie.Need-returns
 returns c =
-    let s = ofWorking (c .before .before .before .before .before .before .before .before .before .before .before .before .args .w) in
-    rw (c .before .before .before .before .before .before .before .before .before .before .before .rank .ensures, c .is-settled .ensures)
-    (ap eigen3 (sym (stands (refusedEigen F) 7 (numbersOf s) (answerOf F s) (rw (c .before .before .before .before .before .before .before .before .before .before .before .rank .ensures) at (c .before .before .before .both-finite .ensures)) (c .before .before .if1 .taken))))
+    let x = c .before .before .before .before .before .before .before .before .before .before .before in
+    let s = ofWorking (x .before .args .w) in
+    let e = rw (x .rank .ensures) at (c .before .before .before .both-finite .ensures) in
+    rw (x .rank .ensures, c .is-settled .ensures) (ap eigen3 (sym (stands (refusedEigen F) 7 (numbersOf s) (answerOf F s) e (c .before .before .if1 .taken))))
 
 returns-2 : tie.Need-returns-2
 returns-2 c =
-    let s = ofWorking (c .before .before .before .before .before .before .before .before .before .before .before .args .w) in
-    c .refused .ensures
-    ∙ ap eigen3 (sym (refuses (refusedEigen F) 7 (numbersOf s) (answerOf F s) (rw (c .before .before .before .before .before .before .before .before .before .before .rank .ensures) at (c .before .before .both-finite .ensures)) (c .before .if1 .left)))
+    let x = c .before .before .before .before .before .before .before .before .before .before in
+    let s = ofWorking (x .before .args .w) in
+    let e = rw (x .rank .ensures) at (c .before .before .both-finite .ensures) in
+    c .refused .ensures ∙ ap eigen3 (sym (refuses (refusedEigen F) 7 (numbersOf s) (answerOf F s) e (c .before .if1 .left)))
 
 pub judge-spec : {M : Type 1} → statement M
 judge-spec =

@@ -9,13 +9,16 @@ use Rattle.eigen.proofs.eigen3x3.judge_values.Tie as tie
 
 returns : tie.Need-returns
 returns c =
-    let s = ofBare (c .before .before .before .before .before .before .before .before .args .w) in
-    rw (c .sort3 .ensures, c .before .is-settled .ensures) (ap eigvals3 (sym (stands (refusedValues F) 7 (s .matrix) (valuesOf F s) (c .before .before .before .before .all-finite .ensures) (c .before .before .before .if1 .taken))))
+    let t = c .before .before .before .before in
+    let s = ofBare (t .before .before .before .before .args .w) in
+    rw (c .sort3 .ensures, c .before .is-settled .ensures)
+    (ap eigvals3 (sym (stands (refusedValues F) 7 (s .matrix) (valuesOf F s) (t .all-finite .ensures) (c .before .before .before .if1 .taken))))
 
 returns-2 : tie.Need-returns-2
 returns-2 c =
     let s = ofBare (c .before .before .before .before .before .before .args .w) in
-    c .refused-values .ensures ∙ ap eigvals3 (sym (refuses (refusedValues F) 7 (s .matrix) (valuesOf F s) (c .before .before .all-finite .ensures) (c .before .if1 .left)))
+    let e = c .before .before .all-finite .ensures in
+    c .refused-values .ensures ∙ ap eigvals3 (sym (refuses (refusedValues F) 7 (s .matrix) (valuesOf F s) e (c .before .if1 .left)))
 
 pub judge-values-spec : {M : Type 1} → statement M
 judge-values-spec =

@@ -1,0 +1,23 @@
+-- Count and mark are those of the definition's states: each step raises the count by one, and the mark is the test of the last state.
+use mathlib.Core.Path.{_≡_, refl, sym, ap, _∙_}
+use mathlib.Core.List.{List}
+use lib.Ieee.{Float, Format}
+use Rattle.float.specs.Width.{F}
+use Rattle.matrix.specs.declared.symmetric.Sym3.{Sym3}
+use Rattle.jacobi.proofs.Run.{ran-counted}
+use Rattle.eigen.specs.Eigen3x3.{State, settledOf, stepOf, runOf, startOf, lastOf, eigenOf}
+use Rattle.eigen.specs.Counted.{RanFor, Counted}
+use Rattle.eigen.specs.declared.eigen3x3.Eigen3.{Eigen3}
+use Rattle.eigen.proofs.Answered.{answered}
+use Rattle.eigen.proofs.eigen3x3.eigen_jacobi.Reads as eigen-jacobi
+
+pub states-counted : (f : Format) (a : List Float) → RanFor f a (lastOf f a .made .count)
+unfolding runOf stepOf
+states-counted f a = ran-counted (stepOf f) (λ (s : State). settledOf f (s .matrix)) (λ (s : State). s .made .count) (λ s. refl) 25 (startOf f a) refl
+
+-- of the answer, and of the call: of any answer within the promise that the source states
+pub counted : (f : Format) (a : List Float) → eigenOf f a .code ≡ 0 → Counted f a (eigenOf f a .made) (eigenOf f a .settled)
+counted f a e = rw (answered f a e .answer) (record { last = refl; mark = refl; ran = states-counted f a })
+
+pub counted-call : (a : Sym3) (r : Eigen3) → eigen-jacobi.Post tt (a, tt) r (a, tt) → r .code ≡ 0 → Counted F (a .«data») (r .made) (r .settled)
+counted-call a r p e = rw p (counted F (a .«data») (sym (ap (λ (r : Eigen3). r .code) p) ∙ e))
