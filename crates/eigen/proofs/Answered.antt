@@ -1,37 +1,31 @@
--- An answer with code 0 is that of the last state: every other way through the definition leaves another code.
-use mathlib.Core.Path.{_≡_, refl, sym, ap, _∙_}
-use mathlib.Core.Bool.{Bool, true, false}
+-- An answer with code 0 is the one that was worked out, of finite numbers: every other way through a judged call leaves another code.
+use mathlib.Core.Path.{_≡_, refl, sym, _∙_}
+use mathlib.Core.Bool.{true}
 use mathlib.Core.List.{List}
-use Prim.Native.Nat.{ℕ, suc}
+use Prim.Native.Nat.{ℕ}
 use native.Mathlib.Omega.{arith}
 use lib.Ieee.{Float, Format}
-use Rattle.float.specs.Choice.{pick}
 use Rattle.float.specs.Sign.{allFinite}
-use Rattle.eigen.specs.Eigen3x3.{State, settledOf, workOf, startOf, EigenAnswer, refusedEigen, rankedOf, judgedEigen, endOf, eigenOf}
+use Rattle.float.specs.Judged.{judgedCall}
+use Rattle.float.proofs.Judged.{by-call}
+use Rattle.eigen.specs.Eigen3x3.{lastOf, EigenAnswer, refusedEigen, numbersOf, answerOf, endOf, eigenOf}
 
-abbrev pub lastOf : Format → List Float → State
-lastOf f a = workOf f 25 (startOf f a)
+-- that q is r, and both lists are of finite numbers
+pub record Accepted {A : Type 0} (used made : List Float) (r q : A) : Type 0 where
+  pub input : allFinite used ≡ true
+  pub numbers : allFinite made ≡ true
+  pub answer : q ≡ r
 
-abbrev pub doneOf : Format → State → EigenAnswer
-doneOf f s = record {
-  code = 0;
-  count = s .count;
-  settled = settledOf f (s .matrix);
-  values = rankedOf s .values;
-  vectors = rankedOf s .columns;
-  worked = s .matrix;
-}
+pub accepted : {A : Type 0} (code : A → ℕ) (refuse : ℕ → A) → ((k : ℕ) → code (refuse k) ≡ k) → (used made : List Float) (r : A)
+    → code (judgedCall refuse used made r) ≡ 0 → Accepted used made r (judgedCall refuse used made r)
+accepted code refuse own used made r =
+    let five = own 5 in
+    let seven = own 7 in
+    by-call refuse used made r (λ q. code q ≡ 0 → Accepted used made r q)
+    (λ i n _. record { input = i; numbers = n; answer = refl })
+    (λ i n e. absurd (omega arith))
+    (λ i e. absurd (omega arith))
 
-accepted : (f : Format) (k : ℕ) (b : Bool) (x : EigenAnswer) → pick b x (refusedEigen f (suc k)) .code ≡ 0 → pick b x (refusedEigen f (suc k)) ≡ x
-accepted f k true x e = refl
-accepted f k false x e = absurd (omega arith)
-
-pub answered : (f : Format) (a : List Float) → eigenOf f a .code ≡ 0 → eigenOf f a ≡ doneOf f (lastOf f a)
-unfolding eigenOf endOf judgedEigen
-answered f a e =
-    let s = lastOf f a in
-    let code : EigenAnswer → ℕ = λ r. r .code in
-    let input = accepted f 4 (allFinite a) (endOf f s) e in
-    let matrix = accepted f 6 (allFinite (s .matrix)) (pick (allFinite (rankedOf s .columns)) (doneOf f s) (refusedEigen f 7)) (sym (ap code input) ∙ e) in
-    let columns = accepted f 6 (allFinite (rankedOf s .columns)) (doneOf f s) (sym (ap code (input ∙ matrix)) ∙ e) in
-    input ∙ matrix ∙ columns
+pub answered : (f : Format) (a : List Float) → eigenOf f a .code ≡ 0 → Accepted a (numbersOf (lastOf f a)) (answerOf f (lastOf f a)) (eigenOf f a)
+unfolding eigenOf endOf
+answered f a = accepted (λ (r : EigenAnswer). r .code) (refusedEigen f) (λ k. refl) a (numbersOf (lastOf f a)) (answerOf f (lastOf f a))

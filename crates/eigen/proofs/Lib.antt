@@ -1,6 +1,4 @@
-pub mod Chosen
-pub mod Run
-pub mod Turns
+pub mod Rounds
 pub mod Answered
 pub mod Counted
 pub mod Bare

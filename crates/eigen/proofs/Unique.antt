@@ -6,18 +6,16 @@ use Rattle.float.proofs.OneAnswer.{named}
 use Rattle.matrix.specs.declared.square.Mat3.{Mat3}
 use Rattle.matrix.specs.declared.symmetric.Sym2.{Sym2}
 use Rattle.matrix.specs.declared.symmetric.Sym3.{Sym3}
-use Rattle.eigen.specs.declared.rotation.Rotation.{Rotation}
-use Rattle.eigen.specs.declared.pairs.Pair.{Pair}
-use Rattle.eigen.specs.declared.pairs.OffDiag.{OffDiag}
+use Rattle.jacobi.specs.declared.rotation.Rotation.{Rotation}
+use Rattle.jacobi.specs.declared.pairs.Pair.{Pair}
+use Rattle.jacobi.specs.declared.pairs.OffDiag.{OffDiag}
 use Rattle.eigen.specs.declared.order.Sorted.{Sorted}
 use Rattle.eigen.specs.declared.eigen2x2.Eigen2.{Eigen2}
 use Rattle.eigen.specs.declared.eigen2x2.EigVals2.{EigVals2}
 use Rattle.eigen.specs.declared.eigen3x3.Eigen3.{Eigen3}
 use Rattle.eigen.specs.declared.eigen3x3.EigVals3.{EigVals3}
-use Rattle.eigen.proofs.rotation.compute_jacobi_rotation.Reads as compute-jacobi-rotation
 use Rattle.eigen.proofs.pairs.find_largest_off_diag.Reads as find-largest-off-diag
 use Rattle.eigen.proofs.pairs.apply_rotation.Reads as apply-rotation
-use Rattle.eigen.proofs.pairs.turn_columns.Reads as turn-columns
 use Rattle.eigen.proofs.pairs.update_eigenvectors.Reads as update-eigenvectors
 use Rattle.eigen.proofs.order.sort3.Reads as sort3
 use Rattle.eigen.proofs.order.sort3_with_columns.Reads as sort3-with-columns
@@ -26,17 +24,11 @@ use Rattle.eigen.proofs.eigen2x2.eigvals.Reads as eigvals
 use Rattle.eigen.proofs.eigen3x3.eigen_jacobi.Reads as eigen-jacobi
 use Rattle.eigen.proofs.eigen3x3.eigvals_jacobi.Reads as eigvals-jacobi
 
-pub one-compute-jacobi-rotation : (apq app aqq : Float) → OneAnswer (λ (r : Rotation). compute-jacobi-rotation.Post tt (apq, (app, (aqq, tt))) r (apq, (app, (aqq, tt))))
-one-compute-jacobi-rotation apq app aqq = named _
-
 pub one-find-largest-off-diag : (a : Sym3) → OneAnswer (λ (r : OffDiag). find-largest-off-diag.Post tt (a, tt) r (a, tt))
 one-find-largest-off-diag a = named _
 
 pub one-apply-rotation : (a : Sym3) (p : Pair) (t : Rotation) → OneAnswer (λ (r : Sym3). apply-rotation.Post tt (a, (p, (t, tt))) r (a, (p, (t, tt))))
 one-apply-rotation a p t = named _
-
-pub one-turn-columns : (v : Mat3) (p : Pair) (c s : Float) → OneAnswer (λ (r : Mat3). turn-columns.Post tt (v, (p, (c, (s, tt)))) r (v, (p, (c, (s, tt)))))
-one-turn-columns v p c s = named _
 
 pub one-update-eigenvectors : (v : Mat3) (p : Pair) (t : Rotation) → OneAnswer (λ (r : Mat3). update-eigenvectors.Post tt (v, (p, (t, tt))) r (v, (p, (t, tt))))
 one-update-eigenvectors v p t = named _

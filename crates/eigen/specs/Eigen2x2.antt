@@ -58,9 +58,16 @@ ofEigen2 r = record { code = r .code; settled = r .settled; values = r .values; 
 abbrev pub refused2 : Format → ℕ → Eigen2Answer
 refused2 f k = record { code = k; settled = false; values = zeros f 2; vectors = zeros f 4 }
 
+-- the numbers worked out: values and vectors in order
+abbrev pub numbers2Of : Ranked (List Float) → List Float
+numbers2Of x = x .values ++ x .carried
+
+abbrev pub answer2Of : Ranked (List Float) → Eigen2Answer
+answer2Of x = record { code = 0; settled = true; values = x .values; vectors = x .carried }
+
 -- the answer to a, whose axes are x
 unfoldable pub end2Of : Format → List Float → Ranked (List Float) → Eigen2Answer
-end2Of f a x = judgedCall (refused2 f) a (x .values ++ x .carried) (record { code = 0; settled = true; values = x .values; vectors = x .carried })
+end2Of f a x = judgedCall (refused2 f) a (numbers2Of x) (answer2Of x)
 
 unfoldable pub eigen2Of : Format → List Float → Eigen2Answer
 eigen2Of f a = end2Of f a (solved2 f a)
@@ -76,8 +83,11 @@ eigvals2 r = record { code = r .code; settled = r .settled; values = r .values }
 abbrev pub refusedValues2 : Format → ℕ → Values2Answer
 refusedValues2 f k = record { code = k; settled = false; values = zeros f 2 }
 
+abbrev pub values2Of : List Float → Values2Answer
+values2Of values = record { code = 0; settled = true; values = values }
+
 unfoldable pub valuesEnd2Of : Format → List Float → List Float → Values2Answer
-valuesEnd2Of f a values = judgedCall (refusedValues2 f) a values (record { code = 0; settled = true; values = values })
+valuesEnd2Of f a values = judgedCall (refusedValues2 f) a values (values2Of values)
 
 unfoldable pub eigvals2Of : Format → List Float → Values2Answer
 eigvals2Of f a = valuesEnd2Of f a (solved2 f a .values)

@@ -10,9 +10,10 @@ use Rattle.matrix.specs.Square.{mat3, identityOf, exchangeOf}
 use Rattle.matrix.specs.Symmetric.{sym3}
 use Rattle.jacobi.specs.Pairs.{turnedOf}
 use Rattle.jacobi.specs.Run.{run, nothingMade, oneMore}
-use Rattle.jacobi.specs.Order.{Ranked, ordered3, ascending}
+use Rattle.jacobi.specs.Order.{Ranked, ordered, ordered3, ascending}
 use Rattle.jacobi.specs.declared.made.Made.{Made}
 use Rattle.eigen.specs.Pairs.{entry, offDiagOf, pairOf, chosenOf, appliedOf}
+use Rattle.eigen.specs.declared.order.Sorted.{Sorted}
 use Rattle.eigen.specs.declared.eigen3x3.Working.{Working}
 use Rattle.eigen.specs.declared.eigen3x3.Bare.{Bare}
 use Rattle.eigen.specs.declared.eigen3x3.Eigen3.{Eigen3}
@@ -86,11 +87,27 @@ bareLastOf f a = bareRunOf f 25 (bareStartOf a)
 abbrev pub diagonal : List Float → List Float
 diagonal a = entry a 0 0 ∷ entry a 1 1 ∷ entry a 2 2 ∷ []
 
+abbrev pub sorted : Ranked (List Float) → Sorted
+sorted w = record { values = w .values; columns = mat3 (w .carried) }
+
+abbrev pub ranked : Sorted → Ranked (List Float)
+ranked w = record { values = w .values; carried = w .columns .«data» }
+
 abbrev pub rankOf : Ranked (List Float) → Ranked (List Float)
 rankOf = ordered3 3 ascending (exchangeOf 3)
 
+-- values alone, with nothing to carry along
+abbrev pub alone : List Float → Ranked (Unit {0})
+alone v = record { values = v; carried = tt }
+
+abbrev pub nothingSwapped : ℕ → ℕ → Unit {0} → Unit {0}
+nothingSwapped i j u = u
+
+abbrev pub orderedValues : ℕ → ℕ → List Float → List Float
+orderedValues i j v = ordered 3 ascending nothingSwapped i j (alone v) .values
+
 abbrev pub sort3Of : List Float → List Float
-sort3Of v = ordered3 3 ascending (λ (i j : ℕ) (u : Unit {0}). u) (record { values = v; carried = tt }) .values
+sort3Of v = ordered3 3 ascending nothingSwapped (alone v) .values
 
 unfoldable pub rankedOf : State → Ranked (List Float)
 rankedOf s = rankOf (record { values = diagonal (s .matrix); carried = s .vectors })

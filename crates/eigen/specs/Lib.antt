@@ -1,4 +1,6 @@
 pub mod Pairs
 pub mod Eigen3x3
 pub mod Eigen2x2
+pub mod Counted
+pub mod Bare
 pub mod Reversed

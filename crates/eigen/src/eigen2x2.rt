@@ -1,8 +1,9 @@
 // The 2x2 call: one rotation is enough. Real is f64 (float::width).
-use crate::rotation::Rotation;
-use crate::rotation::compute_jacobi_rotation;
 use float::sign::all_finite;
+use float::sign::both_finite;
 use float::width::Real;
+use jacobi::rotation::Rotation;
+use jacobi::rotation::compute_jacobi_rotation;
 use matrix::codes::ANSWER_NOT_FINITE;
 use matrix::codes::DONE;
 use matrix::codes::INPUT_NOT_FINITE;
@@ -10,8 +11,8 @@ use matrix::square::Mat2;
 use matrix::symmetric::Sym2;
 ghost use mathlib.Core.Path.{_≡_};
 ghost use Rattle.float.specs.Width.{F};
-ghost use Rattle.eigen.specs.Rotation.{turn};
-ghost use Rattle.eigen.specs.Eigen2x2.{axes2, ofAxes2, axesOf, solved2, eigen2, refused2, judged2, eigen2Of, eigvals2, refusedValues2, judgedValues2, eigvals2Of};
+ghost use Rattle.float.specs.Judged.{judged};
+ghost use Rattle.eigen.specs.Eigen2x2.{axes2, ofAxes2, axesOf, solved2, eigen2, refused2, numbers2Of, answer2Of, eigen2Of, eigvals2, refusedValues2, values2Of, eigvals2Of};
 
 // Two values and their vectors.
 pub struct Axes2 {
@@ -32,9 +33,9 @@ pub struct EigVals2 {
     pub values: [Real; 2],
 }
 
-// The columns stay only if e1 < e2: a tie exchanges them.
+// The columns stay only if e1 < e2: a tie exchanges them (dense2x2/eigen.rs, lines 36 to 53).
 fn axes(r: Rotation, e1: Real, e2: Real) -> Axes2
-    ensures { λ x. ⌜ x ≡ axes2 (axesOf (turn r) e1 e2) ⌝ }
+    ensures { λ x. ⌜ x ≡ axes2 (axesOf r e1 e2) ⌝ }
 {
     let c = r.c;
     let s = r.s;
@@ -55,14 +56,17 @@ fn axes(r: Rotation, e1: Real, e2: Real) -> Axes2
     }
 }
 
-// One rotation, and the order of what it leaves.
+// One rotation, and the order of what it leaves (lines 23 to 35).
 fn eig2(a: Sym2) -> Axes2
     ensures { λ x. ⌜ x ≡ axes2 (solved2 F (a .«data»)) ⌝ }
 {
     let d = a.data;
-    let r = compute_jacobi_rotation(d[1], d[0], d[2]);
-    let t_apq = r.t * d[1];
-    axes(r, d[0] - t_apq, d[2] + t_apq)
+    let app = d[0];
+    let apq = d[1];
+    let aqq = d[2];
+    let r = compute_jacobi_rotation(apq, app, aqq);
+    let t_apq = r.t * apq;
+    axes(r, app - t_apq, aqq + t_apq)
 }
 
 fn refused(code: u8) -> Eigen2
@@ -76,24 +80,22 @@ fn refused(code: u8) -> Eigen2
     }
 }
 
+// The answer, if all its numbers are finite.
 fn judge(x: Axes2) -> Eigen2
-    ensures { λ r. ⌜ r ≡ eigen2 (judged2 F (ofAxes2 x)) ⌝ }
+    ensures { λ r. ⌜ r ≡ eigen2 (judged (refused2 F) 7 (numbers2Of (ofAxes2 x)) (answer2Of (ofAxes2 x))) ⌝ }
 {
     let values = x.values;
     let vectors = x.vectors;
-    let e = vectors.data;
-    if !all_finite(&values) {
-        return refused(ANSWER_NOT_FINITE);
+    let v = vectors.data;
+    if both_finite(&values, &v) {
+        return Eigen2 {
+            code: DONE,
+            settled: true,
+            values,
+            vectors,
+        };
     }
-    if !all_finite(&e) {
-        return refused(ANSWER_NOT_FINITE);
-    }
-    Eigen2 {
-        code: DONE,
-        settled: true,
-        values,
-        vectors,
-    }
+    refused(ANSWER_NOT_FINITE)
 }
 
 // Values in ascending order, with their vectors.
@@ -101,10 +103,10 @@ pub fn eigen(a: Sym2) -> Eigen2
     ensures { λ r. ⌜ r ≡ eigen2 (eigen2Of F (a .«data»)) ⌝ }
 {
     let d = a.data;
-    if !all_finite(&d) {
-        return refused(INPUT_NOT_FINITE);
+    if all_finite(&d) {
+        return judge(eig2(a));
     }
-    judge(eig2(a))
+    refused(INPUT_NOT_FINITE)
 }
 
 fn refused_values(code: u8) -> EigVals2
@@ -118,16 +120,16 @@ fn refused_values(code: u8) -> EigVals2
 }
 
 fn judge_values(values: [Real; 2]) -> EigVals2
-    ensures { λ r. ⌜ r ≡ eigvals2 (judgedValues2 F values) ⌝ }
+    ensures { λ r. ⌜ r ≡ eigvals2 (judged (refusedValues2 F) 7 values (values2Of values)) ⌝ }
 {
-    if !all_finite(&values) {
-        return refused_values(ANSWER_NOT_FINITE);
+    if all_finite(&values) {
+        return EigVals2 {
+            code: DONE,
+            settled: true,
+            values,
+        };
     }
-    EigVals2 {
-        code: DONE,
-        settled: true,
-        values,
-    }
+    refused_values(ANSWER_NOT_FINITE)
 }
 
 // Values in ascending order.
@@ -135,10 +137,10 @@ pub fn eigvals(a: Sym2) -> EigVals2
     ensures { λ r. ⌜ r ≡ eigvals2 (eigvals2Of F (a .«data»)) ⌝ }
 {
     let d = a.data;
-    if !all_finite(&d) {
-        return refused_values(INPUT_NOT_FINITE);
+    if all_finite(&d) {
+        let x = eig2(a);
+        let values = x.values;
+        return judge_values(values);
     }
-    let x = eig2(a);
-    let values = x.values;
-    judge_values(values)
+    refused_values(INPUT_NOT_FINITE)
 }

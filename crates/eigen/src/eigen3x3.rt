@@ -6,35 +6,39 @@ use crate::pairs::find_largest_off_diag;
 use crate::pairs::rotate_pair;
 use crate::pairs::update_eigenvectors;
 use float::sign::all_finite;
+use float::sign::both_finite;
 use float::width::LIMIT;
 use float::width::Real;
+use jacobi::made::Made;
+use jacobi::pairs::OffDiag;
 use matrix::codes::ANSWER_NOT_FINITE;
 use matrix::codes::DONE;
 use matrix::codes::INPUT_NOT_FINITE;
 use matrix::square::Mat3;
 use matrix::symmetric::Sym3;
 ghost use mathlib.Core.Path.{_≡_};
+ghost use lib.Ieee.{lt};
 ghost use Rattle.float.specs.Width.{F};
 ghost use Rattle.float.specs.Constants.{limitF};
-ghost use Rattle.eigen.specs.Order.{sorted, ranked};
-ghost use Rattle.eigen.specs.Eigen3x3.{working, bare, ofWorking, ofBare, settledOf, workOf, startOf, bareWorkOf, bareStartOf, eigen3, eigvals3, refusedEigen, refusedValues, rankedOf, judgedEigen, eigenOf, bareEndOf, eigvalsOf};
+ghost use Rattle.float.specs.Judged.{judged};
+ghost use Rattle.eigen.specs.Eigen3x3.{working, bare, ofWorking, ofBare, settledOf, lastOf, bareLastOf, sorted, rankedOf, eigen3, refusedEigen, numbersOf, answerOf, eigenOf, eigvals3, refusedValues, valuesOf, eigvalsOf};
 
 // A working state.
 pub struct Working {
     pub a: Sym3,
     pub v: Mat3,
-    pub count: u8,
+    pub made: Made,
 }
 
 // A working state without vectors.
 pub struct Bare {
     pub a: Sym3,
-    pub count: u8,
+    pub made: Made,
 }
 
 pub struct Eigen3 {
     pub code: u8,
-    pub count: u8,
+    pub made: Made,
     pub settled: bool,
     pub values: [Real; 3],
     pub vectors: Mat3,
@@ -43,66 +47,72 @@ pub struct Eigen3 {
 
 pub struct EigVals3 {
     pub code: u8,
-    pub count: u8,
+    pub made: Made,
     pub settled: bool,
     pub values: [Real; 3],
     pub worked: Sym3,
+}
+
+// Strictly under the crate's limit, 256 times the distance from 1 to the next number: 2^-44 (dense3x3/eigen.rs, lines 214 and 221).
+fn under_limit(largest: OffDiag) -> bool
+    ensures { λ r. ⌜ r ≡ lt (largest .size) (limitF F) ⌝ }
+{
+    largest.size < LIMIT
 }
 
 // Whether all that lies beside the diagonal is strictly under 2^-44.
 fn is_settled(a: Sym3) -> bool
     ensures { λ r. ⌜ r ≡ settledOf F (a .«data») ⌝ }
 {
-    let largest = find_largest_off_diag(a);
-    largest.size < limit()
+    under_limit(find_largest_off_diag(a))
 }
 
-// The crate's limit, 256 times the distance from 1 to the next number: 2^-44.
-fn limit() -> Real
-    ensures { λ r. ⌜ r ≡ limitF F ⌝ }
-{
-    LIMIT
-}
+// The rotations that a call may make.
+const MOST: u8 = 25;
 
-// The run of at most 25 rotations, with vectors.
+// The run, with vectors (lines 210 to 236).
 fn work(a: Sym3) -> Working
-    ensures { λ w. ⌜ w ≡ working (workOf F 25 (startOf F (a .«data»))) ⌝ }
+    ensures { λ w. ⌜ w ≡ working (lastOf F (a .«data»)) ⌝ }
 {
     let mut b = a;
     let mut v = Mat3::zeros().set_identity();
-    let mut count: u8 = 0;
-    while count < 25 {
+    let mut made = Made { count: 0 };
+    while made.count < MOST {
         let largest = find_largest_off_diag(b);
-        if largest.size < limit() {
-            return Working { a: b, v, count };
+        if under_limit(largest) {
+            return Working { a: b, v, made };
         }
         let p = largest.pair;
         let t = rotate_pair(b, p);
         let r = t.r;
         b = t.a;
         v = update_eigenvectors(v, p, r);
-        count += 1;
+        made = Made {
+            count: made.count + 1,
+        };
     }
-    Working { a: b, v, count }
+    Working { a: b, v, made }
 }
 
 // The same run without vectors.
 fn work_values(a: Sym3) -> Bare
-    ensures { λ w. ⌜ w ≡ bare (bareWorkOf F 25 (bareStartOf (a .«data»))) ⌝ }
+    ensures { λ w. ⌜ w ≡ bare (bareLastOf F (a .«data»)) ⌝ }
 {
     let mut b = a;
-    let mut count: u8 = 0;
-    while count < 25 {
+    let mut made = Made { count: 0 };
+    while made.count < MOST {
         let largest = find_largest_off_diag(b);
-        if largest.size < limit() {
-            return Bare { a: b, count };
+        if under_limit(largest) {
+            return Bare { a: b, made };
         }
         let p = largest.pair;
         let t = rotate_pair(b, p);
         b = t.a;
-        count += 1;
+        made = Made {
+            count: made.count + 1,
+        };
     }
-    Bare { a: b, count }
+    Bare { a: b, made }
 }
 
 fn refused(code: u8) -> Eigen3
@@ -110,7 +120,7 @@ fn refused(code: u8) -> Eigen3
 {
     Eigen3 {
         code,
-        count: 0,
+        made: Made { count: 0 },
         settled: false,
         values: [0.0; 3],
         vectors: Mat3 { data: [0.0; 9] },
@@ -118,40 +128,42 @@ fn refused(code: u8) -> Eigen3
     }
 }
 
-// The diagonal in order, with its columns.
+// The diagonal in order, with its columns (lines 238 to 241).
 fn rank(w: Working) -> Sorted
     ensures { λ r. ⌜ r ≡ sorted (rankedOf (ofWorking w)) ⌝ }
 {
     let a = w.a;
     let v = w.v;
     let d = a.data;
-    sort3_with_columns(d[0], d[2], d[5], v)
+    let a11 = d[0];
+    let a22 = d[2];
+    let a33 = d[5];
+    sort3_with_columns(a11, a22, a33, v)
 }
 
 // The answer, if all its numbers are finite. The values are numbers of the matrix.
-fn judge(w: Working, x: Sorted) -> Eigen3
-    ensures { λ r. ⌜ r ≡ eigen3 (judgedEigen F (ofWorking w) (ranked x)) ⌝ }
+fn judge(w: Working) -> Eigen3
+    ensures { λ r. ⌜ r ≡ eigen3 (judged (refusedEigen F) 7 (numbersOf (ofWorking w)) (answerOf F (ofWorking w))) ⌝ }
 {
+    let x = rank(w);
+    let values = x.values;
+    let vectors = x.columns;
+    let v = vectors.data;
     let a = w.a;
     let d = a.data;
-    let v = x.columns;
-    let e = v.data;
-    if !all_finite(&d) {
-        return refused(ANSWER_NOT_FINITE);
+    if both_finite(&d, &v) {
+        let made = w.made;
+        let settled = is_settled(a);
+        return Eigen3 {
+            code: DONE,
+            made,
+            settled,
+            values,
+            vectors,
+            worked: a,
+        };
     }
-    if !all_finite(&e) {
-        return refused(ANSWER_NOT_FINITE);
-    }
-    let settled = is_settled(a);
-    let values = x.values;
-    Eigen3 {
-        code: DONE,
-        count: w.count,
-        settled,
-        values,
-        vectors: v,
-        worked: a,
-    }
+    refused(ANSWER_NOT_FINITE)
 }
 
 // Values in ascending order, with their vectors.
@@ -159,11 +171,10 @@ pub fn eigen_jacobi(a: Sym3) -> Eigen3
     ensures { λ r. ⌜ r ≡ eigen3 (eigenOf F (a .«data»)) ⌝ }
 {
     let d = a.data;
-    if !all_finite(&d) {
-        return refused(INPUT_NOT_FINITE);
+    if all_finite(&d) {
+        return judge(work(a));
     }
-    let w = work(a);
-    judge(w, rank(w))
+    refused(INPUT_NOT_FINITE)
 }
 
 fn refused_values(code: u8) -> EigVals3
@@ -171,30 +182,35 @@ fn refused_values(code: u8) -> EigVals3
 {
     EigVals3 {
         code,
-        count: 0,
+        made: Made { count: 0 },
         settled: false,
         values: [0.0; 3],
         worked: Sym3 { data: [0.0; 6] },
     }
 }
 
+// The diagonal in order alone (lines 238 to 243), if all numbers of the matrix are finite.
 fn judge_values(w: Bare) -> EigVals3
-    ensures { λ r. ⌜ r ≡ eigvals3 (bareEndOf F (ofBare w)) ⌝ }
+    ensures { λ r. ⌜ r ≡ eigvals3 (judged (refusedValues F) 7 (ofBare w .matrix) (valuesOf F (ofBare w))) ⌝ }
 {
-    let a = w.a;
-    let d = a.data;
-    if !all_finite(&d) {
-        return refused_values(ANSWER_NOT_FINITE);
+    let worked = w.a;
+    let d = worked.data;
+    if all_finite(&d) {
+        let made = w.made;
+        let settled = is_settled(worked);
+        let a11 = d[0];
+        let a22 = d[2];
+        let a33 = d[5];
+        let values = sort3(a11, a22, a33);
+        return EigVals3 {
+            code: DONE,
+            made,
+            settled,
+            values,
+            worked,
+        };
     }
-    let settled = is_settled(a);
-    let values = sort3(d[0], d[2], d[5]);
-    EigVals3 {
-        code: DONE,
-        count: w.count,
-        settled,
-        values,
-        worked: a,
-    }
+    refused_values(ANSWER_NOT_FINITE)
 }
 
 // Values in ascending order.
@@ -202,8 +218,8 @@ pub fn eigvals_jacobi(a: Sym3) -> EigVals3
     ensures { λ r. ⌜ r ≡ eigvals3 (eigvalsOf F (a .«data»)) ⌝ }
 {
     let d = a.data;
-    if !all_finite(&d) {
-        return refused_values(INPUT_NOT_FINITE);
+    if all_finite(&d) {
+        return judge_values(work_values(a));
     }
-    judge_values(work_values(a))
+    refused_values(INPUT_NOT_FINITE)
 }

@@ -3,4 +3,3 @@ pub mod eigen2x2;
 pub mod eigen3x3;
 pub mod order;
 pub mod pairs;
-pub mod rotation;

@@ -3,8 +3,9 @@ use float::width::Real;
 use matrix::square::Mat3;
 ghost use mathlib.Core.Path.{_≡_};
 ghost use mathlib.Core.List.{[], _∷_};
-ghost use Rattle.eigen.specs.Order.{sorted, ranked, orderedValues, ordered, sort3Of, rankOf};
-ghost use Rattle.eigen.specs.declared.pairs.Pair.the-variants.{P12, P13, P23};
+ghost use Rattle.matrix.specs.Square.{exchangeOf};
+ghost use Rattle.jacobi.specs.Order.{ordered, ascending};
+ghost use Rattle.eigen.specs.Eigen3x3.{sorted, ranked, orderedValues, sort3Of, rankOf};
 
 // Values, and the columns that belong to them.
 pub struct Sorted {
@@ -13,23 +14,24 @@ pub struct Sorted {
 }
 
 fn order12(v: [Real; 3]) -> [Real; 3]
-    ensures { λ r. ⌜ r ≡ orderedValues P12 v ⌝ }
+    ensures { λ r. ⌜ r ≡ orderedValues 0 1 v ⌝ }
 {
     if v[0] > v[1] { [v[1], v[0], v[2]] } else { v }
 }
 
 fn order13(v: [Real; 3]) -> [Real; 3]
-    ensures { λ r. ⌜ r ≡ orderedValues P13 v ⌝ }
+    ensures { λ r. ⌜ r ≡ orderedValues 0 2 v ⌝ }
 {
     if v[0] > v[2] { [v[2], v[1], v[0]] } else { v }
 }
 
 fn order23(v: [Real; 3]) -> [Real; 3]
-    ensures { λ r. ⌜ r ≡ orderedValues P23 v ⌝ }
+    ensures { λ r. ⌜ r ≡ orderedValues 1 2 v ⌝ }
 {
     if v[1] > v[2] { [v[0], v[2], v[1]] } else { v }
 }
 
+// The crate's three comparisons (dense3x3/eigen.rs, lines 385 to 397).
 pub fn sort3(a: Real, b: Real, c: Real) -> [Real; 3]
     ensures { λ r. ⌜ r ≡ sort3Of (a ∷ b ∷ c ∷ []) ⌝ }
 {
@@ -37,7 +39,7 @@ pub fn sort3(a: Real, b: Real, c: Real) -> [Real; 3]
 }
 
 fn rank12(w: Sorted) -> Sorted
-    ensures { λ r. ⌜ r ≡ sorted (ordered P12 (ranked w)) ⌝ }
+    ensures { λ r. ⌜ r ≡ sorted (ordered 3 ascending (exchangeOf 3) 0 1 (ranked w)) ⌝ }
 {
     let v = w.values;
     let m = w.columns;
@@ -52,7 +54,7 @@ fn rank12(w: Sorted) -> Sorted
 }
 
 fn rank13(w: Sorted) -> Sorted
-    ensures { λ r. ⌜ r ≡ sorted (ordered P13 (ranked w)) ⌝ }
+    ensures { λ r. ⌜ r ≡ sorted (ordered 3 ascending (exchangeOf 3) 0 2 (ranked w)) ⌝ }
 {
     let v = w.values;
     let m = w.columns;
@@ -67,7 +69,7 @@ fn rank13(w: Sorted) -> Sorted
 }
 
 fn rank23(w: Sorted) -> Sorted
-    ensures { λ r. ⌜ r ≡ sorted (ordered P23 (ranked w)) ⌝ }
+    ensures { λ r. ⌜ r ≡ sorted (ordered 3 ascending (exchangeOf 3) 1 2 (ranked w)) ⌝ }
 {
     let v = w.values;
     let m = w.columns;
@@ -81,8 +83,9 @@ fn rank23(w: Sorted) -> Sorted
     }
 }
 
+// The same with the columns of a matrix (lines 400 to 425).
 pub fn sort3_with_columns(a: Real, b: Real, c: Real, m: Mat3) -> Sorted
-    ensures { λ r. ⌜ r ≡ sorted (rankOf (record { values = a ∷ b ∷ c ∷ []; columns = m .«data» })) ⌝ }
+    ensures { λ r. ⌜ r ≡ sorted (rankOf (record { values = a ∷ b ∷ c ∷ []; carried = m .«data» })) ⌝ }
 {
     rank23(rank13(rank12(Sorted {
         values: [a, b, c],

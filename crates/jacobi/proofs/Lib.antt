@@ -1,4 +1,5 @@
 pub mod Chosen
 pub mod Negated
 pub mod Run
+pub mod Compared
 pub mod Unique

@@ -108,3 +108,17 @@ module _ {S T : Type 0} (step : S → S) (done : S → Bool) (step' : T → T) (
   pub keeps : (k : ℕ) (s : S) → g (run step done k s) ≡ run step' done' k (g s)
   unfolding run
   keeps k s = keeps-from k (done s) s ∙ (rw tests)
+
+-- ---- where two states are related, and so are the next ones, and the test is the same for both, the runs from them end in related states
+
+module _ {S : Type 0} (step : S → S) (done : S → Bool) (R : S → S → Type 0) (tests : (s q : S) → R s q → done s ≡ done q)
+    (steps : (s q : S) → R s q → R (step s) (step q)) where
+  from-rel : (k : ℕ) (t : Bool) (s q : S) → R s q → R (runFrom step done k t s) (runFrom step done k t q)
+  unfolding runFrom
+  from-rel zero t s q r = r
+  from-rel (suc k) true s q r = r
+  from-rel (suc k) false s q r = rw (← tests (step s) (step q) (steps s q r)) (from-rel k (done (step s)) (step s) (step q) (steps s q r))
+
+  pub run-rel : (k : ℕ) (s q : S) → R s q → R (run step done k s) (run step done k q)
+  unfolding run
+  run-rel k s q r = rw (← tests s q r) (from-rel k (done s) s q r)

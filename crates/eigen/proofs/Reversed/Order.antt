@@ -16,9 +16,10 @@ use Rattle.float.specs.Sign.{allFinite}
 use Rattle.float.proofs.Finite.{all-finite-append}
 use Rattle.float.proofs.Negation.{Rel}
 use Rattle.float.proofs.Keys.{key, Within, lt-key, key-rel, within-rel, opposite, differ}
-use Rattle.eigen.specs.Order.{Ranked, ordered, rankOf}
+use Rattle.matrix.specs.Square.{exchangeOf}
+use Rattle.jacobi.specs.Order.{Ranked, ordered, ascending}
+use Rattle.eigen.specs.Eigen3x3.{rankOf}
 use Rattle.eigen.specs.Reversed.{AllDiffer, ValuesExchanged, ColumnsExchanged}
-use Rattle.eigen.specs.declared.pairs.Pair.the-variants.{P12, P13, P23}
 
 -- ---- the sort of three axes, each a value with its column, by three exchanges of two
 
@@ -34,8 +35,8 @@ axis a x y z = record { value = a; x = x; y = y; z = z }
 abbrev pub column : Axis → List Float
 column i = i .x ∷ i .y ∷ i .z ∷ []
 
-abbrev pub axes : Axis → Axis → Axis → Ranked
-axes i j k = record { values = i .value ∷ j .value ∷ k .value ∷ []; columns = column i ++ (column j ++ column k) }
+abbrev pub axes : Axis → Axis → Axis → Ranked (List Float)
+axes i j k = record { values = i .value ∷ j .value ∷ k .value ∷ []; carried = column i ++ (column j ++ column k) }
 
 abbrev above : Axis → Axis → Bool
 above i j = lt (j .value) (i .value)
@@ -55,7 +56,7 @@ middle i j k = lower (upper i j) (upper (lower i j) k)
 abbrev pub highest : Axis → Axis → Axis → Axis
 highest i j k = upper (upper i j) (upper (lower i j) k)
 
-ordered-12 : (i j k : Axis) → ordered P12 (axes i j k) ≡ axes (lower i j) (upper i j) k
+ordered-12 : (i j k : Axis) → ordered 3 ascending (exchangeOf 3) 0 1 (axes i j k) ≡ axes (lower i j) (upper i j) k
 unfolding ordered
 ordered-12 i j k = go (above i j)
   where
@@ -63,7 +64,7 @@ ordered-12 i j k = go (above i j)
     go true = refl
     go false = refl
 
-ordered-13 : (i j k : Axis) → ordered P13 (axes i j k) ≡ axes (lower i k) j (upper i k)
+ordered-13 : (i j k : Axis) → ordered 3 ascending (exchangeOf 3) 0 2 (axes i j k) ≡ axes (lower i k) j (upper i k)
 unfolding ordered
 ordered-13 i j k = go (above i k)
   where
@@ -71,7 +72,7 @@ ordered-13 i j k = go (above i k)
     go true = refl
     go false = refl
 
-ordered-23 : (i j k : Axis) → ordered P23 (axes i j k) ≡ axes i (lower j k) (upper j k)
+ordered-23 : (i j k : Axis) → ordered 3 ascending (exchangeOf 3) 1 2 (axes i j k) ≡ axes i (lower j k) (upper j k)
 unfolding ordered
 ordered-23 i j k = go (above j k)
   where
@@ -79,7 +80,7 @@ ordered-23 i j k = go (above j k)
     go true = refl
     go false = refl
 
-abbrev pub sorted : Axis → Axis → Axis → Ranked
+abbrev pub sorted : Axis → Axis → Axis → Ranked (List Float)
 sorted i j k = axes (lowest i j k) (middle i j k) (highest i j k)
 
 pub ranked-axes : (i j k : Axis) → rankOf (axes i j k) ≡ sorted i j k
@@ -90,7 +91,7 @@ ranked-axes i j k = rw (ordered-12 i j k, ordered-13 (lower i j) (upper i j) k, 
 abbrev finiteAxis : Axis → Bool
 finiteAxis i = allFinite (column i)
 
-axes-finite : (i j k : Axis) → allFinite (axes i j k .columns) ≡ finiteAxis i && (finiteAxis j && finiteAxis k)
+axes-finite : (i j k : Axis) → allFinite (axes i j k .carried) ≡ finiteAxis i && (finiteAxis j && finiteAxis k)
 axes-finite i j k = all-finite-append (column i) (column j ++ column k) ∙ ap (λ (t : Bool). finiteAxis i && t) (all-finite-append (column j) (column k))
 
 pair-finite : (i j : Axis) → finiteAxis (lower i j) && finiteAxis (upper i j) ≡ finiteAxis i && finiteAxis j
@@ -104,7 +105,7 @@ swap : (a b c : Bool) → a && (b && c) ≡ b && (a && c)
 swap true b c = refl
 swap false b c = sym (and-false b)
 
-pub sorted-finite : (i j k : Axis) → allFinite (sorted i j k .columns) ≡ allFinite (axes i j k .columns)
+pub sorted-finite : (i j k : Axis) → allFinite (sorted i j k .carried) ≡ allFinite (axes i j k .carried)
 sorted-finite i j k =
     let l = lower i j in
     let u = upper i j in
@@ -301,7 +302,7 @@ module _ (L K : ℕ) (i j k i' j' k' : Axis) (fi : Within L K (i .value)) (fj : 
   column-same d a a' (inr (inr p)) (inr (inl q)) e = absurd (d .ne-23 (clash K _ _ _ mirror-j (rw (p, q) at e)))
   column-same d a a' (inr (inr p)) (inr (inr q)) e = cc
 
-  pub columns-reversed : AllDiffer (sorted i j k .values) → ColumnsExchanged (sorted i j k .columns) (sorted i' j' k' .columns)
+  pub columns-reversed : AllDiffer (sorted i j k .values) → ColumnsExchanged (sorted i j k .carried) (sorted i' j' k' .carried)
   columns-reversed n =
       let d = distinct n in
       let m = members i j k in

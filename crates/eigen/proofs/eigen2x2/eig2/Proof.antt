@@ -1,6 +1,6 @@
 -- The rotation is the chosen one, and its axes are in order.
-use borrow.Author.Needs.{needs}
 use Rattle.eigen.specs.Eigen2x2.{solved2}
+use borrow.Author.Needs.{needs}
 use Rattle.eigen.proofs.eigen2x2.eig2.Statement.{statement}
 use Rattle.eigen.proofs.eigen2x2.eig2.Tie as tie
 
@@ -16,8 +16,5 @@ eig2-spec =
     (λ c. search needs)
     (λ c. search needs)
     (λ c κs. search needs)
-    (λ c. search needs)
-    (λ c. search needs)
-    (λ c. search needs)
     (λ c κs. search needs)
     returns)

@@ -1,12 +1,12 @@
--- The pair's magnitude and the limit are those of the definition.
-use borrow.Author.Needs.{needs}
+-- The test is that of the definition, of the pair that the definition takes.
 use Rattle.float.specs.Width.{F}
-use Rattle.eigen.proofs.Turns.{tested}
+use Rattle.eigen.proofs.Rounds.{tested}
+use borrow.Author.Needs.{needs}
 use Rattle.eigen.proofs.eigen3x3.is_settled.Statement.{statement}
 use Rattle.eigen.proofs.eigen3x3.is_settled.Tie as tie
 
 returns : tie.Need-returns
-returns c = tested F _ (c .before .before .find-largest-off-diag .ensures) (c .before .limit .ensures)
+returns c = tested F _ (c .before .find-largest-off-diag .ensures) (c .under-limit .ensures)
 
 pub is-settled-spec : {M : Type 1} → statement M
 is-settled-spec = tie.close (tie.spec (λ c κs. search needs) (λ c κs. search needs) returns)

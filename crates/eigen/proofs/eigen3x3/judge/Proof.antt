@@ -1,43 +1,35 @@
--- Each return is one outcome of the tests of matrix and vectors.
+-- Each return is one outcome of the test of matrix and vectors.
+use mathlib.Core.Path.{sym, ap, _∙_}
+use Rattle.float.specs.Width.{F}
+use Rattle.float.proofs.Judged.{stands, refuses}
+use Rattle.eigen.specs.Eigen3x3.{ofWorking, eigen3, refusedEigen, numbersOf, answerOf}
 use borrow.Author.Needs.{needs}
-use Rattle.eigen.specs.Eigen3x3.{judgedEigen}
-use Rattle.float.proofs.Branches.{fails, passes}
 use Rattle.eigen.proofs.eigen3x3.judge.Statement.{statement}
 use Rattle.eigen.proofs.eigen3x3.judge.Tie as tie
 
 returns : tie.Need-returns
-unfolding judgedEigen
-returns c = simp (c .refused .ensures, fails (c .before .before .all-finite .ensures) (c .before .if1 .taken))
+returns c =
+    let x = c .before .before .before .before .before .before .before .before .before .before .before in
+    let s = ofWorking (x .before .args .w) in
+    let e = rw (x .rank .ensures) at (c .before .before .before .both-finite .ensures) in
+    rw (x .rank .ensures, c .is-settled .ensures) (ap eigen3 (sym (stands (refusedEigen F) 7 (numbersOf s) (answerOf F s) e (c .before .before .if1 .taken))))
 
 returns-2 : tie.Need-returns-2
-unfolding judgedEigen
 returns-2 c =
-    simp (
-      c .refused2 .ensures,
-      passes (c .before .before .before .before .before .all-finite .ensures) (c .before .before .before .before .if1 .left),
-      fails (c .before .before .all-finite2 .ensures) (c .before .if2 .taken),
-    )
-
-returns-3 : tie.Need-returns-3
-unfolding judgedEigen
-returns-3 c =
-    simp (
-      c .before .is-settled .ensures,
-      passes (c .before .before .before .before .before .before .all-finite .ensures) (c .before .before .before .before .before .if1 .left),
-      passes (c .before .before .before .all-finite2 .ensures) (c .before .before .if2 .left),
-    )
+    let x = c .before .before .before .before .before .before .before .before .before .before in
+    let s = ofWorking (x .before .args .w) in
+    let e = rw (x .rank .ensures) at (c .before .before .both-finite .ensures) in
+    c .refused .ensures ∙ ap eigen3 (sym (refuses (refusedEigen F) 7 (numbersOf s) (answerOf F s) e (c .before .if1 .left)))
 
 pub judge-spec : {M : Type 1} → statement M
 judge-spec =
     tie.close
     (tie.spec
+    (λ c κs. search needs)
+    (λ c. search needs)
     (λ c. search needs)
     (λ c κs. search needs)
     (λ c κs. search needs)
     returns
-    (λ c. search needs)
     (λ c κs. search needs)
-    (λ c κs. search needs)
-    returns-2
-    (λ c κs. search needs)
-    returns-3)
+    returns-2)

@@ -1,17 +1,24 @@
 -- Each return is one outcome of the test of the matrix.
+use mathlib.Core.Path.{sym, ap, _∙_}
+use Rattle.float.specs.Width.{F}
+use Rattle.float.proofs.Judged.{stands, refuses}
+use Rattle.eigen.specs.Eigen3x3.{ofBare, eigvals3, refusedValues, valuesOf}
 use borrow.Author.Needs.{needs}
-use Rattle.eigen.specs.Eigen3x3.{bareEndOf}
-use Rattle.float.proofs.Branches.{fails, passes}
 use Rattle.eigen.proofs.eigen3x3.judge_values.Statement.{statement}
 use Rattle.eigen.proofs.eigen3x3.judge_values.Tie as tie
 
 returns : tie.Need-returns
-unfolding bareEndOf
-returns c = simp (c .refused-values .ensures, fails (c .before .before .all-finite .ensures) (c .before .if1 .taken))
+returns c =
+    let t = c .before .before .before .before in
+    let s = ofBare (t .before .before .before .before .args .w) in
+    rw (c .sort3 .ensures, c .before .is-settled .ensures)
+    (ap eigvals3 (sym (stands (refusedValues F) 7 (s .matrix) (valuesOf F s) (t .all-finite .ensures) (c .before .before .before .if1 .taken))))
 
 returns-2 : tie.Need-returns-2
-unfolding bareEndOf
-returns-2 c = simp (c .sort3 .ensures, c .before .is-settled .ensures, passes (c .before .before .before .all-finite .ensures) (c .before .before .if1 .left))
+returns-2 c =
+    let s = ofBare (c .before .before .before .before .before .before .args .w) in
+    let e = c .before .before .all-finite .ensures in
+    c .refused-values .ensures ∙ ap eigvals3 (sym (refuses (refusedValues F) 7 (s .matrix) (valuesOf F s) e (c .before .if1 .left)))
 
 pub judge-values-spec : {M : Type 1} → statement M
 judge-values-spec =
@@ -20,10 +27,10 @@ judge-values-spec =
     (λ c. search needs)
     (λ c κs. search needs)
     (λ c κs. search needs)
-    returns
+    (λ c. search needs)
+    (λ c. search needs)
+    (λ c. search needs)
     (λ c κs. search needs)
-    (λ c. search needs)
-    (λ c. search needs)
-    (λ c. search needs)
+    returns
     (λ c κs. search needs)
     returns-2)

@@ -1,6 +1,6 @@
 -- The diagonal and the vectors are those of the state.
-use borrow.Author.Needs.{needs}
 use Rattle.eigen.specs.Eigen3x3.{rankedOf}
+use borrow.Author.Needs.{needs}
 use Rattle.eigen.proofs.eigen3x3.rank.Statement.{statement}
 use Rattle.eigen.proofs.eigen3x3.rank.Tie as tie
 
@@ -11,9 +11,4 @@ returns c = c .sort3-with-columns .ensures
 pub rank-spec : {M : Type 1} → statement M
 rank-spec =
     tie.close
-    (tie.spec
-    (λ c. search needs)
-    (λ c. search needs)
-    (λ c. search needs)
-    (λ c κs. search needs)
-    returns)
+    (tie.spec (λ c. search needs) (λ c. search needs) (λ c. search needs) (λ c κs. search needs) returns)

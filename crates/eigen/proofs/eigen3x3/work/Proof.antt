@@ -1,56 +1,61 @@
--- The invariant: what is left of the run, from the state at hand, leaves what the whole run leaves. The measure is the turns left.
+-- The invariant: what is left of the run, from the state at hand, leaves what the whole run leaves. The measure is the rotations left.
 use mathlib.Core.Path.{_≡_, sym, ap, _∙_}
 use mathlib.Core.Bool.{Bool}
-use Prim.Native.Nat.{ℕ, _+_, _-_, _≤_}
+use Prim.Native.Nat.{_+_, _-_, _≤_}
 use native.Mathlib.Omega.{arith}
-use borrow.Author.Needs.{needs}
 use Rattle.float.specs.Width.{F}
 use Rattle.matrix.specs.declared.square.Mat3.{Mat3}
 use Rattle.matrix.specs.declared.symmetric.Sym3.{Sym3}
-use Rattle.eigen.specs.Eigen3x3.{State, working, settledOf, stepOf, workOf, startOf}
-use Rattle.eigen.proofs.Run.{leaves, turns-once, used-up}
-use Rattle.eigen.proofs.Turns.{tested, next-state}
+use Rattle.jacobi.specs.declared.made.Made.{Made}
+use Rattle.jacobi.proofs.Run.{leaves, turns-once, used-up}
+use Rattle.eigen.specs.Eigen3x3.{State, working, settledOf, stepOf, runOf, lastOf}
+use Rattle.eigen.proofs.Rounds.{tested, next-state}
+use borrow.Author.Needs.{needs}
 use Rattle.eigen.proofs.eigen3x3.work.Statement.{statement}
 use Rattle.eigen.proofs.eigen3x3.work.Tie as tie
 
-abbrev state : Sym3 → Mat3 → ℕ → State
-state b v n = record { matrix = b .«data»; vectors = v .«data»; count = n }
+abbrev state : Sym3 → Mat3 → Made → State
+state b v m = record { matrix = b .«data»; vectors = v .«data»; made = m }
 
 abbrev done : State → Bool
 done s = settledOf F (s .matrix)
 
 abbrev Inv-loop : tie.InvT-loop
-Inv-loop b₀ v₀ count₀ b v count = (count ≤ 25) × (workOf F (25 - count) (state b v count) ≡ workOf F 25 (startOf F (b₀ .«data»)))
+Inv-loop b₀ v₀ made₀ b v made = (made .count ≤ 25) × (runOf F (25 - made .count) (state b v made) ≡ lastOf F (b₀ .«data»))
 
 abbrev μ-loop : tie.MeasureT-loop
-μ-loop b₀ v₀ count₀ b v count = 25 - count
+μ-loop b₀ v₀ made₀ b v made = 25 - made .count
 
 loop-holds : tie.Need-loop-holds Inv-loop μ-loop
 loop-holds c = (omega arith, rw (c .set-identity .ensures))
 
 returns : tie.Need-returns Inv-loop μ-loop
-unfolding workOf
+unfolding runOf
 returns c =
     let l = c .before .before .before .before .before .loop in
-    let h = sym (tested F (l .b .«data») (c .before .before .before .find-largest-off-diag .ensures) (c .before .before .limit .ensures)) ∙ c .if1 .taken in
-    ap working (leaves (stepOf F) done 25 (l .count) (state (l .b) (l .v) (l .count)) h (l .inv .1))
+    let h = sym (tested F (l .b .«data») (c .before .before .find-largest-off-diag .ensures) (c .before .under-limit .ensures)) ∙ c .if2 .taken in
+    ap working (leaves (stepOf F) done 25 (l .made .count) (state (l .b) (l .v) (l .made)) h (l .inv .1))
 
 loop-again : tie.Need-loop-again Inv-loop μ-loop
-unfolding workOf
+unfolding runOf
 loop-again c =
-    let l = c .before .before .before .before .before .before .before .before .before .loop in
-    let o = c .before .before .before .before .before .before .before .find-largest-off-diag .ensures in
-    let h = sym (tested F (l .b .«data») o (c .before .before .before .before .before .before .limit .ensures)) ∙ c .before .before .before .before .if1 .left in (
+    let t = c .before .before .before .before .before in
+    let l = t .before .before .before .before .before .loop in
+    let o = t .before .before .find-largest-off-diag .ensures in
+    let n = l .made .count in
+    let h = sym (tested F (l .b .«data») o (t .before .under-limit .ensures)) ∙ t .if2 .left in (
       omega arith,
-      ap (workOf F (25 - (l .count + 1))) (next-state F (l .b .«data») o (l .count) (c .before .before .before .rotate-pair .ensures) (l .v .«data») (c .update-eigenvectors .ensures))
-          ∙ turns-once (stepOf F) done 25 (l .count) (state (l .b) (l .v) (l .count)) (omega arith) h (l .inv .1),
+      ap (runOf F (25 - (n + 1)))
+          (next-state F (l .b .«data») o (l .made) (c .before .before .before .before .rotate-pair .ensures) (l .v .«data»)
+          (c .before .update-eigenvectors .ensures))
+          ∙ turns-once (stepOf F) done 25 n (state (l .b) (l .v) (l .made)) (omega arith) h (l .inv .1),
     )
 
 returns-2 : tie.Need-returns-2 Inv-loop μ-loop
-unfolding workOf
+unfolding runOf
 returns-2 c =
-    let l = c .before .loop in
-    ap working (used-up (stepOf F) done 25 (l .count) (state (l .b) (l .v) (l .count)) (omega arith) (l .inv .1))
+    let l = c .before .before .loop in
+    ap working (used-up (stepOf F) done 25 (l .made .count) (state (l .b) (l .v) (l .made)) (omega arith) (l .inv .1))
 
 pub work-spec : {M : Type 1} → statement M
 work-spec =

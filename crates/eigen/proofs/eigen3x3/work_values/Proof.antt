@@ -1,55 +1,59 @@
--- The invariant: what is left of the run, from the state at hand, leaves what the whole run leaves. The measure is the turns left.
+-- The invariant: what is left of the run, from the state at hand, leaves what the whole run leaves. The measure is the rotations left.
 use mathlib.Core.Path.{_≡_, refl, sym, ap, _∙_}
 use mathlib.Core.Bool.{Bool}
-use Prim.Native.Nat.{ℕ, _+_, _-_, _≤_}
+use Prim.Native.Nat.{_+_, _-_, _≤_}
 use native.Mathlib.Omega.{arith}
-use borrow.Author.Needs.{needs}
 use Rattle.float.specs.Width.{F}
 use Rattle.matrix.specs.declared.symmetric.Sym3.{Sym3}
-use Rattle.eigen.specs.Eigen3x3.{BareState, bare, settledOf, bareStepOf, bareWorkOf, bareStartOf}
-use Rattle.eigen.proofs.Run.{leaves, turns-once, used-up}
-use Rattle.eigen.proofs.Turns.{tested, next-bare}
+use Rattle.jacobi.specs.declared.made.Made.{Made}
+use Rattle.jacobi.proofs.Run.{leaves, turns-once, used-up}
+use Rattle.eigen.specs.Eigen3x3.{BareState, bare, settledOf, bareStepOf, bareRunOf, bareLastOf}
+use Rattle.eigen.proofs.Rounds.{tested, next-bare}
+use borrow.Author.Needs.{needs}
 use Rattle.eigen.proofs.eigen3x3.work_values.Statement.{statement}
 use Rattle.eigen.proofs.eigen3x3.work_values.Tie as tie
 
-abbrev state : Sym3 → ℕ → BareState
-state b n = record { matrix = b .«data»; count = n }
+abbrev state : Sym3 → Made → BareState
+state b m = record { matrix = b .«data»; made = m }
 
 abbrev done : BareState → Bool
 done s = settledOf F (s .matrix)
 
 abbrev Inv-loop : tie.InvT-loop
-Inv-loop b₀ count₀ b count = (count ≤ 25) × (bareWorkOf F (25 - count) (state b count) ≡ bareWorkOf F 25 (bareStartOf (b₀ .«data»)))
+Inv-loop b₀ made₀ b made = (made .count ≤ 25) × (bareRunOf F (25 - made .count) (state b made) ≡ bareLastOf F (b₀ .«data»))
 
 abbrev μ-loop : tie.MeasureT-loop
-μ-loop b₀ count₀ b count = 25 - count
+μ-loop b₀ made₀ b made = 25 - made .count
 
 loop-holds : tie.Need-loop-holds Inv-loop μ-loop
 loop-holds c = (omega arith, refl)
 
 returns : tie.Need-returns Inv-loop μ-loop
-unfolding bareWorkOf
+unfolding bareRunOf
 returns c =
     let l = c .before .before .before .before .before .loop in
-    let h = sym (tested F (l .b .«data») (c .before .before .before .find-largest-off-diag .ensures) (c .before .before .limit .ensures)) ∙ c .if1 .taken in
-    ap bare (leaves (bareStepOf F) done 25 (l .count) (state (l .b) (l .count)) h (l .inv .1))
+    let h = sym (tested F (l .b .«data») (c .before .before .find-largest-off-diag .ensures) (c .before .under-limit .ensures)) ∙ c .if2 .taken in
+    ap bare (leaves (bareStepOf F) done 25 (l .made .count) (state (l .b) (l .made)) h (l .inv .1))
 
 loop-again : tie.Need-loop-again Inv-loop μ-loop
-unfolding bareWorkOf
+unfolding bareRunOf
 loop-again c =
-    let l = c .before .before .before .before .before .before .before .loop in
-    let o = c .before .before .before .before .before .find-largest-off-diag .ensures in
-    let h = sym (tested F (l .b .«data») o (c .before .before .before .before .limit .ensures)) ∙ c .before .before .if1 .left in (
+    let t = c .before .before .before in
+    let l = t .before .before .before .before .before .loop in
+    let o = t .before .before .find-largest-off-diag .ensures in
+    let n = l .made .count in
+    let h = sym (tested F (l .b .«data») o (t .before .under-limit .ensures)) ∙ t .if2 .left in (
       omega arith,
-      ap (bareWorkOf F (25 - (l .count + 1))) (next-bare F (l .b .«data») o (l .count) (c .before .rotate-pair .ensures))
-          ∙ turns-once (bareStepOf F) done 25 (l .count) (state (l .b) (l .count)) (omega arith) h (l .inv .1),
+      ap (bareRunOf F (25 - (n + 1)))
+          (next-bare F (l .b .«data») o (l .made) (c .before .before .rotate-pair .ensures))
+          ∙ turns-once (bareStepOf F) done 25 n (state (l .b) (l .made)) (omega arith) h (l .inv .1),
     )
 
 returns-2 : tie.Need-returns-2 Inv-loop μ-loop
-unfolding bareWorkOf
+unfolding bareRunOf
 returns-2 c =
-    let l = c .before .loop in
-    ap bare (used-up (bareStepOf F) done 25 (l .count) (state (l .b) (l .count)) (omega arith) (l .inv .1))
+    let l = c .before .before .loop in
+    ap bare (used-up (bareStepOf F) done 25 (l .made .count) (state (l .b) (l .made)) (omega arith) (l .inv .1))
 
 pub work-values-spec : {M : Type 1} → statement M
 work-values-spec =

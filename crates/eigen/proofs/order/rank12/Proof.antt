@@ -1,6 +1,6 @@
 -- Each return is one outcome of the comparison, and the columns change places with the values.
+use Rattle.jacobi.specs.Order.{ordered}
 use borrow.Author.Needs.{needs}
-use Rattle.eigen.specs.Order.{ordered}
 use Rattle.eigen.proofs.order.rank12.Statement.{statement}
 use Rattle.eigen.proofs.order.rank12.Tie as tie
 

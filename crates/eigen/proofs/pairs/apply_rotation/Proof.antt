@@ -1,29 +1,22 @@
 -- Each return is one pair, and the call there answers for it.
 use borrow.Author.Needs.{needs}
-use Rattle.eigen.specs.Pairs.{appliedOf}
 use Rattle.eigen.proofs.pairs.apply_rotation.Statement.{statement}
 use Rattle.eigen.proofs.pairs.apply_rotation.Tie as tie
 
-enum-told : tie.Need-enum-told
-enum-told c = search needs
-
 returns : tie.Need-returns
-unfolding appliedOf
 returns c = rw (c .before .enum-told .given .1) (c .apply12 .ensures)
 
 returns-2 : tie.Need-returns-2
-unfolding appliedOf
 returns-2 c = rw (c .before .enum-told2 .given .1) (c .apply13 .ensures)
 
 returns-3 : tie.Need-returns-3
-unfolding appliedOf
 returns-3 c = rw (c .before .enum-told3 .given .1) (c .apply23 .ensures)
 
 pub apply-rotation-spec : {M : Type 1} → statement M
 apply-rotation-spec =
     tie.close
     (tie.spec
-    enum-told
+    (λ c. search needs)
     (λ c κs. search needs)
     (λ c. search needs)
     (λ c κs. search needs)

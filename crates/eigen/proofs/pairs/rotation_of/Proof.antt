@@ -3,9 +3,6 @@ use borrow.Author.Needs.{needs}
 use Rattle.eigen.proofs.pairs.rotation_of.Statement.{statement}
 use Rattle.eigen.proofs.pairs.rotation_of.Tie as tie
 
-enum-told : tie.Need-enum-told
-enum-told c = search needs
-
 returns : tie.Need-returns
 returns c = rw (c .before .enum-told .given .1) (c .compute-jacobi-rotation .ensures)
 
@@ -19,19 +16,16 @@ pub rotation-of-spec : {M : Type 1} → statement M
 rotation-of-spec =
     tie.close
     (tie.spec
-    enum-told
+    (λ c. search needs)
+    (λ c. search needs)
+    (λ c. search needs)
+    (λ c. search needs)
     (λ c. search needs)
     (λ c. search needs)
     (λ c. search needs)
     (λ c κs. search needs)
     (λ c. search needs)
-    (λ c. search needs)
-    (λ c. search needs)
-    (λ c. search needs)
     (λ c κs. search needs)
-    (λ c. search needs)
-    (λ c. search needs)
-    (λ c. search needs)
     (λ c. search needs)
     (λ c κs. search needs)
     returns

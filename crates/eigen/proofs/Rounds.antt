@@ -1,0 +1,30 @@
+-- One round of the 3x3 loops makes the definition's test and step, since each of its calls answers by the definition's names.
+use mathlib.Core.Path.{_≡_, ap, _∙_}
+use mathlib.Core.Bool.{Bool}
+use mathlib.Core.List.{List}
+use lib.Ieee.{Float, Format, lt}
+use Rattle.float.specs.Constants.{limitF}
+use Rattle.matrix.specs.declared.square.Mat3.{Mat3}
+use Rattle.matrix.specs.Square.{mat3}
+use Rattle.jacobi.specs.Pairs.{turnedOf}
+use Rattle.jacobi.specs.Run.{oneMore}
+use Rattle.jacobi.specs.declared.made.Made.{Made}
+use Rattle.jacobi.specs.declared.pairs.OffDiag.{OffDiag}
+use Rattle.eigen.specs.Pairs.{offDiagOf, turnedPair}
+use Rattle.eigen.specs.Eigen3x3.{State, BareState, settledOf, nextMatrix, nextVectors, stepOf, bareStepOf}
+use Rattle.eigen.specs.declared.pairs.Turned.{Turned}
+
+module _ (f : Format) (a : List Float) {largest : OffDiag} (is : largest ≡ offDiagOf a) where
+  pub tested : {t : Bool} → t ≡ lt (largest .size) (limitF f) → t ≡ settledOf f a
+  unfolding settledOf
+  tested e = e ∙ ap (λ (o : OffDiag). lt (o .size) (limitF f)) is
+
+  module _ (m : Made) {t : Turned} (turned : t ≡ turnedPair f (largest .pair) a) where
+    pub next-bare : _≡_ {A = BareState} (record { matrix = t .a .«data»; made = oneMore m }) (bareStepOf f (record { matrix = a; made = m }))
+    unfolding bareStepOf nextMatrix
+    next-bare = rw (turned, is)
+
+    pub next-state : (v : List Float) {w : Mat3} → w ≡ mat3 (turnedOf f (largest .pair) (t .r .c) (t .r .s) v) →
+        _≡_ {A = State} (record { matrix = t .a .«data»; vectors = w .«data»; made = oneMore m }) (stepOf f (record { matrix = a; vectors = v; made = m }))
+    unfolding stepOf nextMatrix nextVectors
+    next-state v e = rw (e, turned, is)
