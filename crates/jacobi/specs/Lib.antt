@@ -2,3 +2,4 @@ pub mod Rotation
 pub mod Pairs
 pub mod Run
 pub mod Order
+pub mod Moved

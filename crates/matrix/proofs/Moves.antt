@@ -71,13 +71,13 @@ by-column P i j c at-i at-j other = first (eqb c i) refl
     first true e = at-i (eqb-true c i e)
     first false e = second (eqb-false c i e) (eqb c j) refl
 
-exchanged-below : {n : ℕ} (i j c : ℕ) → i < n → j < n → c < n → exchanged i j c < n
+pub exchanged-below : {n : ℕ} (i j c : ℕ) → i < n → j < n → c < n → exchanged i j c < n
 exchanged-below {n} i j c h k l = by-column (λ (d : ℕ). d < n) i j c (λ e. k) (λ m e. h) (λ m o. l)
 
-at-first : (i j : ℕ) → exchanged i j i ≡ j
+pub at-first : (i j : ℕ) → exchanged i j i ≡ j
 at-first i j = rw (eq-eqb i i refl)
 
-at-second : (i j : ℕ) → exchanged i j j ≡ i
+pub at-second : (i j : ℕ) → exchanged i j j ≡ i
 at-second i j = by-column (λ (d : ℕ). d ≡ i) i j j (λ e. e) (λ m e. refl) (λ m o. absurd (o refl))
 
 pub exchanged-twice : (i j c : ℕ) → exchanged i j (exchanged i j c) ≡ c

@@ -1,0 +1,107 @@
+-- Putting values in order only moves them: an exchange of two places is undone by itself, what is carried makes the same exchange, and what two moves do is again one.
+use mathlib.Core.Path.{_≡_, refl, ap, _∙_, subst, subst⁻¹}
+use mathlib.Core.Bool.{Bool}
+use Prim.Native.Nat.{ℕ, _<_}
+use native.Mathlib.Omega.{arith}
+use lib.Ieee.{Float}
+use Rattle.float.proofs.Choice.{chosen}
+use Rattle.matrix.specs.Places.{at}
+use Rattle.matrix.specs.Square.{entryOf, exchanged, exchangeOf}
+use Rattle.matrix.proofs.Tables.{at-tabulate}
+use Rattle.matrix.proofs.Moves.{entry-of, exchanged-below, exchanged-twice}
+use Rattle.jacobi.specs.Order.{Ranked, swapped, ordered, ordered3}
+use Rattle.jacobi.specs.Moved.{Permutation, Moved, ColumnsFollow}
+
+-- ---- permutations: none, one after another, an exchange
+
+abbrev pub same : (n : ℕ) → Permutation n
+same n = record { to = (λ c. c); back = (λ c. c); to-below = (λ c h. h); back-below = (λ c h. h); to-back = (λ c. refl); back-to = (λ c. refl) }
+
+abbrev pub composed : {n : ℕ} → Permutation n → Permutation n → Permutation n
+composed g h = record {
+  to = (λ c. g .to (h .to c));
+  back = (λ c. h .back (g .back c));
+  to-below = (λ c l. g .to-below (h .to c) (h .to-below c l));
+  back-below = (λ c l. h .back-below (g .back c) (g .back-below c l));
+  to-back = (λ c. ap (g .to) (h .to-back (g .back c)) ∙ g .to-back c);
+  back-to = (λ c. ap (h .back) (g .back-to (h .to c)) ∙ h .back-to c);
+}
+
+abbrev pub exchange : {n : ℕ} (i j : ℕ) → i < n → j < n → Permutation n
+exchange i j p q = record {
+  to = exchanged i j;
+  back = exchanged i j;
+  to-below = (λ c l. exchanged-below i j c p q l);
+  back-below = (λ c l. exchanged-below i j c p q l);
+  to-back = exchanged-twice i j;
+  back-to = exchanged-twice i j;
+}
+
+-- ---- what is carried follows each of them
+
+pub record Carries {C : Type 0} (n : ℕ) (swap : ℕ → ℕ → C → C) (Follows : Permutation n → C → C → Type 0) : Type 0 where
+  pub unmoved : (x : C) → Follows (same n) x x
+  pub swaps : (i j : ℕ) (p : i < n) (q : j < n) (x : C) → Follows (exchange i j p q) x (swap i j x)
+  pub then : (g h : Permutation n) (x y z : C) → Follows g x y → Follows h y z → Follows (composed g h) x z
+
+pub columns-carried : (n : ℕ) → Carries n (exchangeOf n) (ColumnsFollow n)
+columns-carried n = record {
+  unmoved = (λ x r c k l. refl);
+  swaps = (λ i j p q x. entry-of n (λ (r c : ℕ). entryOf n x r (exchanged i j c)));
+  then = (λ g h x y z p q r c k l. q r c k l ∙ p r (h .to c) k (h .to-below c l));
+}
+
+-- nothing is said of what is carried
+pub nothing-said : {C : Type 0} (n : ℕ) (swap : ℕ → ℕ → C → C) → Carries n swap (λ (g : Permutation n) (x y : C). Unit {0})
+nothing-said n swap = record { unmoved = (λ x. tt); swaps = (λ i j p q x. tt); then = (λ g h x y z p q. tt) }
+
+-- ---- the order, by any test, is a move
+
+module _ {C : Type 0} {n : ℕ} {swap : ℕ → ℕ → C → C} {Follows : Permutation n → C → C → Type 0} (carries : Carries n swap Follows) where
+  after : {x y z : Ranked C} → Moved n Follows x y → Moved n Follows y z → Moved n Follows x z
+  after {x} {y} {z} p q =
+      let h = q .by in
+      record {
+        by = composed (p .by) h;
+        values = (λ c l. q .values c l ∙ p .values (h .to c) (h .to-below c l));
+        carried = carries .then (p .by) h (x .carried) (y .carried) (z .carried) (p .carried) (q .carried);
+      }
+
+  module _ (wrong : Float → Float → Bool) where
+    pub ordered-moves : (i j : ℕ) → i < n → j < n → (w : Ranked C) → Moved n Follows w (ordered n wrong swap i j w)
+    unfolding ordered
+    ordered-moves i j p q w =
+        chosen (Moved n Follows w) (wrong (at (w .values) i) (at (w .values) j)) (swapped n wrong swap i j w) w
+        (record {
+          by = exchange i j p q;
+          values = at-tabulate n (λ (c : ℕ). at (w .values) (exchanged i j c));
+          carried = carries .swaps i j p q (w .carried);
+        })
+        (record { by = same n; values = (λ c l. refl); carried = carries .unmoved (w .carried) })
+
+    pub ordered3-moves : 2 < n → (w : Ranked C) → Moved n Follows w (ordered3 n wrong swap w)
+    ordered3-moves h w =
+        after (after (ordered-moves 0 1 (omega arith) (omega arith) w) (ordered-moves 0 2 (omega arith) h _)) (ordered-moves 1 2 (omega arith) h _)
+
+-- ---- what holds of each value holds of each after a move, and before it
+
+module _ {C : Type 0} {n : ℕ} {Follows : Permutation n → C → C → Type 0} {x y : Ranked C} (m : Moved n Follows x y) (P : Float → Type 0) where
+  pub each : ((c : ℕ) → c < n → P (at (x .values) c)) → (c : ℕ) → c < n → P (at (y .values) c)
+  each h c l = subst⁻¹ P (m .values c l) (h (m .by .to c) (m .by .to-below c l))
+
+  pub each-before : ((c : ℕ) → c < n → P (at (y .values) c)) → (c : ℕ) → c < n → P (at (x .values) c)
+  each-before h c l =
+      let b = m .by .back c in
+      let k = m .by .back-below c l in
+      subst P (m .values b k ∙ ap (at (x .values)) (m .by .to-back c)) (h b k)
+
+-- ---- what an exchange keeps the order keeps
+
+module _ {C : Type 0} (n : ℕ) (wrong : Float → Float → Bool) (swap : ℕ → ℕ → C → C) (P : Ranked C → Type 0)
+    (kept : (i j : ℕ) (w : Ranked C) → P w → P (swapped n wrong swap i j w)) where
+  pub ordered-keeps : (i j : ℕ) (w : Ranked C) → P w → P (ordered n wrong swap i j w)
+  unfolding ordered
+  ordered-keeps i j w p = chosen P (wrong (at (w .values) i) (at (w .values) j)) (swapped n wrong swap i j w) w (kept i j w p) p
+
+  pub ordered3-keeps : (w : Ranked C) → P w → P (ordered3 n wrong swap w)
+  ordered3-keeps w p = ordered-keeps 1 2 _ (ordered-keeps 0 2 _ (ordered-keeps 0 1 w p))
