@@ -1,8 +1,8 @@
 -- A judged call owes what every kernel owes: each of its three ways ends in the answer or in the refusal with 5 or 7.
-use mathlib.Core.Path.{_≡_, sym, ap, _∙_}
+use mathlib.Core.Path.{_≡_, sym, ap, _∙_, subst⁻¹}
 use mathlib.Core.Bool.{true, true≢false}
 use mathlib.Core.List.{List}
-use mathlib.Core.Logic.{inl, inr}
+use mathlib.Core.Logic.{inl, inr, ⊎-elim}
 use Prim.Native.Nat.{ℕ}
 use native.Mathlib.Omega.{arith}
 use lib.Ieee.{Float}
@@ -42,3 +42,17 @@ module _ {A : Type 0} (code : A → ℕ) (refuse : ℕ → A) (own : (k : ℕ) �
         clear = (λ _. ap refuse (sym five));
         full = (λ k. absurd (omega arith));
       })
+
+-- an answer that is owed is full, or it is the refusal of its code
+pub by-owed : {A : Type 0} {code : A → ℕ} {refuse : ℕ → A} {parts : A → List Part} {used : List Float} {r : A} → Owed code refuse parts used r
+    → (P : A → Type 0) → (AllFull (parts r) → P r) → P (refuse (code r)) → P r
+by-owed o P full refused =
+    ⊎-elim (λ z. full (o .full z))
+    (⊎-elim (λ five. subst⁻¹ P (o .clear (λ z. omega arith)) refused)
+    (⊎-elim (λ six. subst⁻¹ P (o .clear (λ z. omega arith)) refused) (λ seven. subst⁻¹ P (o .clear (λ z. omega arith)) refused)))
+    (o .known)
+
+-- where the used numbers are finite its code is not 5
+pub not-five : {A : Type 0} {code : A → ℕ} {refuse : ℕ → A} {parts : A → List Part} {used : List Float} {r : A} → Owed code refuse parts used r
+    → allFinite used ≡ true → code r ≡ 5 → ⊥
+not-five o e five = true≢false (sym e ∙ o .five .0 five)

@@ -1,5 +1,4 @@
 pub mod Examples
-pub mod Stops
 pub mod Kernels
 pub mod Rows
 pub mod Codes

@@ -8,10 +8,11 @@ use lib.Dec.{eqb}
 use lib.Ieee.{Float, Format}
 use Rattle.float.specs.Choice.{pick}
 use Rattle.float.specs.Sign.{allFinite}
-use Rattle.float.proofs.Choice.{chosen, by-test, by-eqb}
+use Rattle.float.proofs.Choice.{by-test, by-eqb}
 use Rattle.matrix.specs.Answer.{zeros}
-use Rattle.cholesky.specs.Factor.{FactorAnswer, plain, steps2Of, steps3Of, judgedFactor, factor2Of, factor3Of}
-use Rattle.cholesky.specs.Solve.{SolvedAnswer, judgedSolved, refusedSolved, solution2Of, solution3Of, factorAndSolve2Of, factorAndSolve3Of}
+use Rattle.cholesky.specs.Factor.{FactorAnswer}
+use Rattle.cholesky.specs.Pivots.{oneAtMostZero, refusedPivot}
+use Rattle.cholesky.proofs.Codes.{factor2-pivot, factor3-pivot, solved2-pivot, solved3-pivot}
 use Rattle.kinds.specs.Slots.{knownKind, nineUsed, threeUsed}
 use Rattle.kinds.specs.Work.{firstOf, refusedKind, fromFactor, workOf}
 use Rattle.kinds.specs.declared.work.Worked.{Worked}
@@ -19,65 +20,15 @@ use Rattle.record.specs.Layout.{nineAt, threeAt}
 use Rattle.record.specs.Bytes.{numbersFrom}
 use Rattle.record.specs.Request.{kindOf, reservedZero, unusedZero, formOf, usedFinite, judgedOf}
 use Rattle.record.proofs.Used.{used-numbers}
-use Rattle.promises.specs.Conditions.{pivots2Of, pivots3Of, pivotsOf, oneAtMostZero, refusedPivot, numbersOf, PivotGiven}
-use Rattle.promises.proofs.Stops.{steps2-stops, steps3-stops}
-use Rattle.promises.proofs.Kernels.{seven, from-factor-code, each-known, kind-code}
+use Rattle.kinds.proofs.Works.{factor-code}
+use Rattle.promises.specs.Conditions.{pivotsOf, numbersOf, PivotGiven}
+use Rattle.promises.proofs.Kernels.{seven, each-known, kind-code}
 
-module _ (f : Format) where
-  -- ---- what a factor hands on with 6
-
-  abbrev Handed : ℕ → FactorAnswer → Type 0
-  Handed pivot q = q .code ≡ 6 → q .pivot ≡ pivot
-
-  judged-hands : (l a : List Float) (r : FactorAnswer) → Handed (r .pivot) (pick (allFinite a) (judgedFactor l r) (plain 5 l))
-  judged-hands l a r =
-      chosen (Handed (r .pivot)) (allFinite a) (judgedFactor l r) (plain 5 l)
-      (chosen (Handed (r .pivot)) (eqb (r .code) 0) (pick (allFinite (r .factor)) r (plain 7 l)) r
-      (chosen (Handed (r .pivot)) (allFinite (r .factor)) r (plain 7 l) (λ _. refl) (λ c. absurd (omega arith))) (λ _. refl))
-      (λ c. absurd (omega arith))
-
-  from-hands : (s pivot : ℕ) (r : FactorAnswer) → Handed pivot r → fromFactor f s r .code ≡ 6 → fromFactor f s r .count ≡ pivot
-  unfolding fromFactor
-  from-hands s pivot r h c =
-      by-eqb (λ (w : Worked). w .code ≡ 6 → w .count ≡ pivot) (r .code) 0 _ _ (λ _ c. absurd (omega arith)) (λ _ _. h (sym (from-factor-code f s r) ∙ c)) c
-
-  factor2-hands : (a : List Float) → fromFactor f 3 (factor2Of f (zeros f 3) a) .code ≡ 6 → fromFactor f 3 (factor2Of f (zeros f 3) a) .count ≡ refusedPivot f 1 (pivots2Of f a)
-  unfolding factor2Of
-  factor2-hands a c = let r = steps2Of f (zeros f 3) a in from-hands 3 (r .pivot) (factor2Of f (zeros f 3) a) (judged-hands (zeros f 3) a r) c ∙ steps2-stops f (zeros f 3) a .1
-
-  factor3-hands : (a : List Float) → fromFactor f 6 (factor3Of f (zeros f 6) a) .code ≡ 6 → fromFactor f 6 (factor3Of f (zeros f 6) a) .count ≡ refusedPivot f 1 (pivots3Of f a)
-  unfolding factor3Of
-  factor3-hands a c = let r = steps3Of f (zeros f 6) a in from-hands 6 (r .pivot) (factor3Of f (zeros f 6) a) (judged-hands (zeros f 6) a r) c ∙ steps3-stops f (zeros f 6) a .1
-
-  -- ---- what factor and solve hands on
-
-  abbrev Told : ℕ → SolvedAnswer → Type 0
-  Told pivot q = q .code ≡ 6 → q .pivot ≡ pivot
-
-  solved-hands : (s n : ℕ) (a b : List Float) (r : FactorAnswer) (x : List Float)
-      → Told (r .pivot) (pick (allFinite a) (pick (allFinite b) (judgedSolved f s n r x) (refusedSolved f s n 5 0)) (refusedSolved f s n 5 0))
-  solved-hands s n a b r x =
-      let P = Told (r .pivot) in
-      let good : SolvedAnswer = record { code = 0; pivot = 0; factor = r .factor; solution = x } in
-      let five = refusedSolved f s n 5 0 in
-      let last = refusedSolved f s n 7 0 in
-      chosen P (allFinite a) (pick (allFinite b) (judgedSolved f s n r x) five) five
-      (chosen P (allFinite b) (judgedSolved f s n r x) five
-      (chosen P (eqb (r .code) 0) (pick (allFinite (r .factor)) (pick (allFinite x) good last) last) (refusedSolved f s n (r .code) (r .pivot))
-      (chosen P (allFinite (r .factor)) (pick (allFinite x) good last) last
-      (chosen P (allFinite x) good last (λ c. absurd (omega arith)) (λ c. absurd (omega arith)))
-      (λ c. absurd (omega arith)))
-      (λ _. refl))
-      (λ c. absurd (omega arith)))
-      (λ c. absurd (omega arith))
-
-  solved2-hands : (a b : List Float) → factorAndSolve2Of f a b .code ≡ 6 → factorAndSolve2Of f a b .pivot ≡ refusedPivot f 1 (pivots2Of f a)
-  unfolding factorAndSolve2Of
-  solved2-hands a b c = let r = steps2Of f (zeros f 3) a in solved-hands 3 2 a b r (solution2Of f (r .factor) b) c ∙ steps2-stops f (zeros f 3) a .1
-
-  solved3-hands : (a b : List Float) → factorAndSolve3Of f a b .code ≡ 6 → factorAndSolve3Of f a b .pivot ≡ refusedPivot f 1 (pivots3Of f a)
-  unfolding factorAndSolve3Of
-  solved3-hands a b c = let r = steps3Of f (zeros f 6) a in solved-hands 6 3 a b r (solution3Of f (r .factor) b) c ∙ steps3-stops f (zeros f 6) a .1
+-- with 6 a record of a factor has the factor's number
+factor-hands : (f : Format) (s pivot : ℕ) (r : FactorAnswer) → (r .code ≡ 6 → r .pivot ≡ pivot) → fromFactor f s r .code ≡ 6 → fromFactor f s r .count ≡ pivot
+unfolding fromFactor
+factor-hands f s pivot r h c =
+    by-eqb (λ (w : Worked). w .code ≡ 6 → w .count ≡ pivot) (r .code) 0 _ _ (λ _ c. absurd (omega arith)) (λ _ _. h (sym (factor-code f s r) ∙ c)) c
 
 -- ---- the kinds
 
@@ -96,10 +47,10 @@ work-hands f nine three =
     (λ h k c. absurd (not-six (allFinite (numbersOf f 2 nine three)) (sym (kind-code f 2 nine three refl h k) ∙ c)))
     (λ h k c. absurd (not-six (allFinite (numbersOf f 3 nine three)) (sym (kind-code f 3 nine three refl h k) ∙ c)))
     (λ h k c. absurd (not-six (allFinite (numbersOf f 4 nine three)) (sym (kind-code f 4 nine three refl h k) ∙ c)))
-    (λ _ _ c. factor2-hands f (firstOf 3 nine) c)
-    (λ _ _ c. factor3-hands f (firstOf 6 nine) c)
-    (λ _ _ c. solved2-hands f (firstOf 3 nine) (firstOf 2 three) c)
-    (λ _ _ c. solved3-hands f (firstOf 6 nine) (firstOf 3 three) c)
+    (λ _ _ c. factor-hands f 3 _ _ (factor2-pivot f (zeros f 3) (firstOf 3 nine)) c)
+    (λ _ _ c. factor-hands f 6 _ _ (factor3-pivot f (zeros f 6) (firstOf 6 nine)) c)
+    (λ _ _. solved2-pivot f (firstOf 3 nine) (firstOf 2 three))
+    (λ _ _. solved3-pivot f (firstOf 6 nine) (firstOf 3 three))
 
 -- ---- the record
 

@@ -1,22 +1,21 @@
 -- The scope's table of the numbers that answer, for a record: each row's condition as it is read off the bytes, and the order of the rows. Definitions only.
 use mathlib.Core.Path.{_≡_}
-use mathlib.Core.Bool.{Bool, true, false, not, _&&_, _||_}
-use mathlib.Core.List.{List, [], _∷_, _++_}
-use Prim.Native.Nat.{ℕ, suc}
+use mathlib.Core.Bool.{Bool, true, false, not, _&&_}
+use mathlib.Core.List.{List, [], _++_}
+use Prim.Native.Nat.{ℕ}
 use lib.Dec.{eqb}
 use lib.ListN.{length}
-use lib.Ieee.{Float, Format, sub, mul, div, le}
+use lib.Ieee.{Float, Format}
 use Rattle.float.specs.Choice.{pick}
-use Rattle.float.specs.Constants.{zeroF}
-use Rattle.float.specs.Root.{rootOf}
+use Rattle.float.specs.Exactly.{Exactly}
 use Rattle.float.specs.Sign.{allFinite}
 use Rattle.matrix.specs.Answer.{zeros}
-use Rattle.matrix.specs.Places.{at}
 use Rattle.cholesky.specs.Factor.{steps2Of, steps3Of}
+use Rattle.cholesky.specs.Pivots.{pivots2Of, pivots3Of, oneAtMostZero, refusedPivot}
 use Rattle.cholesky.specs.Solve.{solution2Of, solution3Of}
-use Rattle.eigen.specs.Eigen2x2.{solved2}
+use Rattle.eigen.specs.Eigen2x2 as eigen2
 use Rattle.eigen.specs.Eigen3x3 as eigen3
-use Rattle.svd.specs.Svd2x2.{sides2Of, factors2Of}
+use Rattle.svd.specs.Svd2x2 as svd2
 use Rattle.svd.specs.Svd3x3 as svd3
 use Rattle.kinds.specs.Slots.{knownKind}
 use Rattle.kinds.specs.Work.{firstOf}
@@ -25,22 +24,7 @@ use Rattle.record.specs.Bytes.{numbersFrom}
 use Rattle.record.specs.Request.{kindOf, reservedZero, unusedZero, usedFinite, judgedOf}
 use Rattle.record.specs.Answer.{recordStepOf}
 
--- ---- 6: the pivots by the formula. One counts only if those before it are above zero; if one of them is not, that is a 6 already.
-
-abbrev pub pivots2Of : Format → List Float → List Float
-pivots2Of f a =
-    let l11 = rootOf f (at a 0) in
-    let l21 = div f (at a 1) l11 in
-    at a 0 ∷ sub f (at a 2) (mul f l21 l21) ∷ []
-
-abbrev pub pivots3Of : Format → List Float → List Float
-pivots3Of f a =
-    let l11 = rootOf f (at a 0) in
-    let l21 = div f (at a 1) l11 in
-    let p2 = sub f (at a 2) (mul f l21 l21) in
-    let l31 = div f (at a 3) l11 in
-    let l32 = div f (sub f (at a 4) (mul f l21 l31)) (rootOf f p2) in
-    at a 0 ∷ p2 ∷ sub f (sub f (at a 5) (mul f l31 l31)) (mul f l32 l32) ∷ []
+-- ---- 6: the pivots of each kind. One counts only if those before it are above zero; if one of them is not, that is a 6 already.
 
 abbrev pub pivotsOf : Format → ℕ → List Float → List Float
 pivotsOf f kind nine =
@@ -49,33 +33,22 @@ pivotsOf f kind nine =
     (pick (eqb kind 7) (pivots2Of f (firstOf 3 nine))
     (pick (eqb kind 8) (pivots3Of f (firstOf 6 nine)) [])))
 
-unfoldable pub oneAtMostZero : Format → List Float → Bool
-oneAtMostZero f [] = false
-oneAtMostZero f (p ∷ ps) = le p (zeroF f) || oneAtMostZero f ps
-
--- the number of the first that is at most zero, counted from k; 0 where none is
-unfoldable pub refusedPivot : Format → ℕ → List Float → ℕ
-refusedPivot f k [] = 0
-refusedPivot f k (p ∷ ps) = pick (le p (zeroF f)) k (refusedPivot f (suc k) ps)
-
 -- ---- 7: the numbers of the answer, and for the 3x3 kinds 2 and 4 the worked matrix, among whose numbers the values are, or their magnitudes
-
-abbrev pub eigen3Numbers : Format → eigen3.State → List Float
-eigen3Numbers f s = s .matrix ++ eigen3.rankedOf s .columns
-
-abbrev pub svd3Numbers : Format → svd3.State → List Float
-svd3Numbers f s = s .matrix ++ (svd3.factorsOf s .u ++ svd3.factorsOf s .v)
 
 abbrev pub numbersOf : Format → ℕ → List Float → List Float → List Float
 numbersOf f kind nine three =
-    pick (eqb kind 1) (solved2 f (firstOf 3 nine) .values ++ solved2 f (firstOf 3 nine) .vectors)
-    (pick (eqb kind 2) (eigen3Numbers f (eigen3.workOf f 25 (eigen3.startOf f (firstOf 6 nine))))
-    (pick (eqb kind 3) (factors2Of (sides2Of f (firstOf 4 nine)) .values ++ (factors2Of (sides2Of f (firstOf 4 nine)) .u ++ factors2Of (sides2Of f (firstOf 4 nine)) .v))
-    (pick (eqb kind 4) (svd3Numbers f (svd3.workOf f 25 (svd3.startOf f (firstOf 9 nine))))
-    (pick (eqb kind 5) (steps2Of f (zeros f 3) (firstOf 3 nine) .factor)
-    (pick (eqb kind 6) (steps3Of f (zeros f 6) (firstOf 6 nine) .factor)
-    (pick (eqb kind 7) (steps2Of f (zeros f 3) (firstOf 3 nine) .factor ++ solution2Of f (steps2Of f (zeros f 3) (firstOf 3 nine) .factor) (firstOf 2 three))
-    (pick (eqb kind 8) (steps3Of f (zeros f 6) (firstOf 6 nine) .factor ++ solution3Of f (steps3Of f (zeros f 6) (firstOf 6 nine) .factor) (firstOf 3 three)) [])))))))
+    let a2 = firstOf 3 nine in
+    let a3 = firstOf 6 nine in
+    let l2 = steps2Of f (zeros f 3) a2 .factor in
+    let l3 = steps3Of f (zeros f 6) a3 .factor in
+    pick (eqb kind 1) (eigen2.numbersOf (eigen2.solved2 f a2))
+    (pick (eqb kind 2) (eigen3.numbersOf (eigen3.lastOf f a3))
+    (pick (eqb kind 3) (svd2.numbersOf (svd2.factors2Of (svd2.sides2Of f (firstOf 4 nine))))
+    (pick (eqb kind 4) (svd3.numbersOf (svd3.lastOf f (firstOf 9 nine)))
+    (pick (eqb kind 5) l2
+    (pick (eqb kind 6) l3
+    (pick (eqb kind 7) (l2 ++ solution2Of f l2 (firstOf 2 three))
+    (pick (eqb kind 8) (l3 ++ solution3Of f l3 (firstOf 3 three)) [])))))))
 
 -- ---- the rows
 
@@ -122,9 +95,6 @@ Holds t = t ≡ true
 
 abbrev pub Fails : Bool → Type 0
 Fails t = t ≡ false
-
-abbrev pub Exactly : Type 0 → Type 0 → Type 0
-Exactly P Q = (P → Q) × (Q → P)
 
 module _ (f : Format) (request answer : List ℕ) where
   abbrev Gives : ℕ → Type 0
