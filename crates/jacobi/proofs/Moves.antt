@@ -1,13 +1,15 @@
 -- Putting values in order only moves them: an exchange of two places is undone by itself, what is carried makes the same exchange, and what two moves do is again one.
 use mathlib.Core.Path.{_≡_, refl, ap, _∙_, subst, subst⁻¹}
-use mathlib.Core.Bool.{Bool}
+use mathlib.Core.Bool.{Bool, true}
 use Prim.Native.Nat.{ℕ, _<_}
 use native.Mathlib.Omega.{arith}
+use lib.ListN.{length}
 use lib.Ieee.{Float}
+use Rattle.float.specs.Sign.{finite, allFinite}
 use Rattle.float.proofs.Choice.{chosen}
 use Rattle.matrix.specs.Places.{at}
 use Rattle.matrix.specs.Square.{entryOf, exchanged, exchangeOf}
-use Rattle.matrix.proofs.Tables.{at-tabulate}
+use Rattle.matrix.proofs.Tables.{at-tabulate, tabulate-all, table-finite}
 use Rattle.matrix.proofs.Moves.{entry-of, exchanged-below, exchanged-twice}
 use Rattle.jacobi.specs.Order.{Ranked, swapped, ordered, ordered3}
 use Rattle.jacobi.specs.Moved.{Permutation, Moved, ColumnsFollow}
@@ -94,6 +96,12 @@ module _ {C : Type 0} {n : ℕ} {Follows : Permutation n → C → C → Type 0}
       let b = m .by .back c in
       let k = m .by .back-below c l in
       subst P (m .values b k ∙ ap (at (x .values)) (m .by .to-back c)) (h b k)
+
+-- ---- values that are all finite are so after a move
+
+module _ {C : Type 0} {n : ℕ} {Follows : Permutation n → C → C → Type 0} {x y : Ranked C} (m : Moved n Follows x y) where
+  pub moved-finite : ((c : ℕ) → c < n → finite (at (x .values) c) ≡ true) → length (y .values) ≡ n → allFinite (y .values) ≡ true
+  moved-finite h e = rw (← tabulate-all n (y .values) e) (table-finite n (at (y .values)) (each m (λ (v : Float). finite v ≡ true) h))
 
 -- ---- what an exchange keeps the order keeps
 

@@ -41,9 +41,9 @@ numbersOf f kind nine three =
     let a3 = firstOf 6 nine in
     let l2 = steps2Of f (zeros f 3) a2 .factor in
     let l3 = steps3Of f (zeros f 6) a3 .factor in
-    pick (eqb kind 1) (eigen2.numbersOf (eigen2.solved2 f a2))
+    pick (eqb kind 1) (eigen2.numbers2Of (eigen2.solved2 f a2))
     (pick (eqb kind 2) (eigen3.numbersOf (eigen3.lastOf f a3))
-    (pick (eqb kind 3) (svd2.numbersOf (svd2.factors2Of (svd2.sides2Of f (firstOf 4 nine))))
+    (pick (eqb kind 3) (svd2.numbers2Of (svd2.factors2Of (svd2.sides2Of f (firstOf 4 nine))))
     (pick (eqb kind 4) (svd3.numbersOf (svd3.lastOf f (firstOf 9 nine)))
     (pick (eqb kind 5) l2
     (pick (eqb kind 6) l3

@@ -1,36 +1,23 @@
 -- Count and mark are those of the definition's states: each step raises the count by one, and the mark is the test of the last state.
 use mathlib.Core.Path.{_≡_, refl, sym, ap, _∙_}
-use mathlib.Core.Bool.{Bool}
 use mathlib.Core.List.{List}
-use Prim.Native.Nat.{ℕ}
 use lib.Ieee.{Float, Format}
 use Rattle.float.specs.Width.{F}
 use Rattle.matrix.specs.declared.square.Mat3.{Mat3}
-use Rattle.eigen.specs.Run.{Ran}
-use Rattle.eigen.proofs.Run.{ran-counted}
-use Rattle.svd.specs.Svd3x3.{State, settledOf, stepOf, workOf, startOf, svdOf}
+use Rattle.jacobi.proofs.Run.{ran-counted}
+use Rattle.svd.specs.Svd3x3.{State, settledOf, stepOf, runOf, startOf, lastOf, svdOf}
+use Rattle.svd.specs.Counted.{RanFor, Counted}
 use Rattle.svd.specs.declared.svd3x3.Svd3.{Svd3}
-use Rattle.svd.proofs.Answered.{lastOf, answered}
+use Rattle.svd.proofs.Answered.{answered}
 use Rattle.svd.proofs.svd3x3.svd.Reads as svd
 
--- ---- the states
+pub states-counted : (f : Format) (a : List Float) → RanFor f a (lastOf f a .made .count)
+unfolding runOf stepOf
+states-counted f a = ran-counted (stepOf f) (λ (s : State). settledOf f (s .matrix)) (λ (s : State). s .made .count) (λ s. refl) 25 (startOf f a) refl
 
--- the last state is the n-th after the first; no state before it is settled; and it is settled, or the 25 turns are used up
-abbrev pub RanFor : Format → List Float → ℕ → Type 0
-RanFor f a n = Ran (stepOf f) (λ (s : State). settledOf f (s .matrix)) 25 (startOf f a) (lastOf f a) n
+-- of the answer, and of the call: of any answer within the promise that the source states
+pub counted : (f : Format) (a : List Float) → svdOf f a .code ≡ 0 → Counted f a (svdOf f a .made) (svdOf f a .settled)
+counted f a e = rw (answered f a e .answer) (record { last = refl; mark = refl; ran = states-counted f a })
 
-pub states-counted : (f : Format) (a : List Float) → RanFor f a (lastOf f a .count)
-unfolding workOf stepOf
-states-counted f a = ran-counted (stepOf f) (λ (s : State). settledOf f (s .matrix)) (λ (s : State). s .count) (λ s. refl) 25 (startOf f a) refl
-
--- ---- count and mark of the answer, and of the call: of any answer within the promise that the source states
-
-pub record Counted (f : Format) (a : List Float) (count : ℕ) (settled : Bool) : Type 0 where
-  pub ran : RanFor f a count
-  pub mark : settled ≡ settledOf f (lastOf f a .matrix)
-
-pub counted : (f : Format) (a : List Float) → svdOf f a .code ≡ 0 → Counted f a (svdOf f a .count) (svdOf f a .settled)
-counted f a e = rw (answered f a e .is) (record { ran = states-counted f a; mark = refl })
-
-pub counted-call : (a : Mat3) (r : Svd3) → svd.Post tt (a, tt) r (a, tt) → r .code ≡ 0 → Counted F (a .«data») (r .count) (r .settled)
+pub counted-call : (a : Mat3) (r : Svd3) → svd.Post tt (a, tt) r (a, tt) → r .code ≡ 0 → Counted F (a .«data») (r .made) (r .settled)
 counted-call a r p e = rw p (counted F (a .«data») (sym (ap (λ (r : Svd3). r .code) p) ∙ e))

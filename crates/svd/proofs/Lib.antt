@@ -1,6 +1,5 @@
-pub mod Chosen
-pub mod Turns
+pub mod Signed
+pub mod Rounds
 pub mod Answered
 pub mod Counted
-pub mod Ordered
 pub mod Unique

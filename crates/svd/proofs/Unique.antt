@@ -4,8 +4,8 @@ use Rattle.float.specs.OneAnswer.{OneAnswer}
 use Rattle.float.proofs.OneAnswer.{named}
 use Rattle.matrix.specs.declared.square.Mat2.{Mat2}
 use Rattle.matrix.specs.declared.square.Mat3.{Mat3}
-use Rattle.eigen.specs.declared.pairs.Pair.{Pair}
-use Rattle.eigen.specs.declared.pairs.OffDiag.{OffDiag}
+use Rattle.jacobi.specs.declared.pairs.Pair.{Pair}
+use Rattle.jacobi.specs.declared.pairs.OffDiag.{OffDiag}
 use Rattle.svd.specs.declared.polar.Polar.{Polar}
 use Rattle.svd.specs.declared.polar.TwoSided.{TwoSided}
 use Rattle.svd.specs.declared.order.Factors2.{Factors2}

@@ -41,11 +41,16 @@ ofSvd2 r = record { code = r .code; settled = r .settled; values = r .values; u 
 abbrev pub refusedSvd2 : Format → ℕ → Svd2Answer
 refusedSvd2 f k = record { code = k; settled = false; values = zeros f 2; u = zeros f 4; v = zeros f 4 }
 
+-- the numbers worked out: the values, U and V
+abbrev pub numbers2Of : Factors → List Float
+numbers2Of w = w .values ++ (w .carried .u ++ w .carried .v)
+
+abbrev pub answer2Of : Factors → Svd2Answer
+answer2Of w = record { code = 0; settled = true; values = w .values; u = w .carried .u; v = w .carried .v }
+
 -- the answer to a, whose factors are w
 unfoldable pub end2Of : Format → List Float → Factors → Svd2Answer
-end2Of f a w =
-    judgedCall (refusedSvd2 f) a (w .values ++ (w .carried .u ++ w .carried .v))
-    (record { code = 0; settled = true; values = w .values; u = w .carried .u; v = w .carried .v })
+end2Of f a w = judgedCall (refusedSvd2 f) a (numbers2Of w) (answer2Of w)
 
 unfoldable pub svd2Of : Format → List Float → Svd2Answer
 svd2Of f a = end2Of f a (factors2Of (sides2Of f a))

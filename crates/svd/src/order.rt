@@ -6,8 +6,8 @@ use matrix::square::Mat2;
 use matrix::square::Mat3;
 ghost use mathlib.Core.Path.{_≡_};
 ghost use Rattle.matrix.specs.Square.{mat2, mat3};
-ghost use Rattle.svd.specs.Order.{factors2, factors3, ofFactors2, ofFactors3, signedColumn, descended, orderOf, descended2, order2Of};
-ghost use Rattle.eigen.specs.declared.pairs.Pair.the-variants.{P12, P13, P23};
+ghost use Rattle.jacobi.specs.Order.{ordered, descending};
+ghost use Rattle.svd.specs.Order.{factors2, factors3, ofFactors2, ofFactors3, signedColumn, exchangeBoth, orderOf, order2Of};
 
 // Values, and the columns of U and V that belong to them.
 pub struct Factors3 {
@@ -22,6 +22,7 @@ pub struct Factors2 {
     pub v: Mat2,
 }
 
+// A column of U changes sign where the value's sign bit is set, -0 too (dense3x3/svd.rs, lines 213 to 222).
 fn sign1(u: Mat3, x: Real) -> Mat3
     ensures { λ r. ⌜ r ≡ mat3 (signedColumn 3 0 x (u .«data»)) ⌝ }
 {
@@ -40,15 +41,19 @@ fn sign3(u: Mat3, x: Real) -> Mat3
     if sign_bit(x) { u.flip3() } else { u }
 }
 
+// Two values change places, with their columns of U and V, where the first is below the second (lines 225 to 229).
 fn descend12(w: Factors3) -> Factors3
-    ensures { λ r. ⌜ r ≡ factors3 (descended P12 (ofFactors3 w)) ⌝ }
+    ensures { λ r. ⌜ r ≡ factors3 (ordered 3 descending (exchangeBoth 3) 0 1 (ofFactors3 w)) ⌝ }
 {
     let s = w.values;
     let u = w.u;
     let v = w.v;
-    if s[0] < s[1] {
+    let absa = s[0];
+    let absb = s[1];
+    let absc = s[2];
+    if absa < absb {
         Factors3 {
-            values: [s[1], s[0], s[2]],
+            values: [absb, absa, absc],
             u: u.swap12(),
             v: v.swap12(),
         }
@@ -57,15 +62,19 @@ fn descend12(w: Factors3) -> Factors3
     }
 }
 
+// The same of the first and the third (lines 232 to 236).
 fn descend13(w: Factors3) -> Factors3
-    ensures { λ r. ⌜ r ≡ factors3 (descended P13 (ofFactors3 w)) ⌝ }
+    ensures { λ r. ⌜ r ≡ factors3 (ordered 3 descending (exchangeBoth 3) 0 2 (ofFactors3 w)) ⌝ }
 {
     let s = w.values;
     let u = w.u;
     let v = w.v;
-    if s[0] < s[2] {
+    let absa = s[0];
+    let absb = s[1];
+    let absc = s[2];
+    if absa < absc {
         Factors3 {
-            values: [s[2], s[1], s[0]],
+            values: [absc, absb, absa],
             u: u.swap13(),
             v: v.swap13(),
         }
@@ -74,15 +83,19 @@ fn descend13(w: Factors3) -> Factors3
     }
 }
 
+// The same of the second and the third (lines 239 to 243).
 fn descend23(w: Factors3) -> Factors3
-    ensures { λ r. ⌜ r ≡ factors3 (descended P23 (ofFactors3 w)) ⌝ }
+    ensures { λ r. ⌜ r ≡ factors3 (ordered 3 descending (exchangeBoth 3) 1 2 (ofFactors3 w)) ⌝ }
 {
     let s = w.values;
     let u = w.u;
     let v = w.v;
-    if s[1] < s[2] {
+    let absa = s[0];
+    let absb = s[1];
+    let absc = s[2];
+    if absb < absc {
         Factors3 {
-            values: [s[0], s[2], s[1]],
+            values: [absa, absc, absb],
             u: u.swap23(),
             v: v.swap23(),
         }
@@ -91,7 +104,7 @@ fn descend23(w: Factors3) -> Factors3
     }
 }
 
-// Signs first, then the order.
+// Signs first, then the order (lines 195 to 246).
 pub fn fix_order_and_signs_3x3(a: Real, b: Real, c: Real, u: Mat3, v: Mat3) -> Factors3
     ensures { λ r. ⌜ r ≡ factors3 (orderOf a b c (u .«data») (v .«data»)) ⌝ }
 {
@@ -104,6 +117,7 @@ pub fn fix_order_and_signs_3x3(a: Real, b: Real, c: Real, u: Mat3, v: Mat3) -> F
     })))
 }
 
+// The same of two columns (dense2x2/svd.rs, lines 53 to 59).
 fn sign1_2x2(u: Mat2, x: Real) -> Mat2
     ensures { λ r. ⌜ r ≡ mat2 (signedColumn 2 0 x (u .«data»)) ⌝ }
 {
@@ -116,15 +130,18 @@ fn sign2_2x2(u: Mat2, x: Real) -> Mat2
     if sign_bit(x) { u.flip2() } else { u }
 }
 
+// Lines 62 to 66.
 fn descend_2x2(w: Factors2) -> Factors2
-    ensures { λ r. ⌜ r ≡ factors2 (descended2 (ofFactors2 w)) ⌝ }
+    ensures { λ r. ⌜ r ≡ factors2 (ordered 2 descending (exchangeBoth 2) 0 1 (ofFactors2 w)) ⌝ }
 {
     let s = w.values;
     let u = w.u;
     let v = w.v;
-    if s[0] < s[1] {
+    let absa = s[0];
+    let absb = s[1];
+    if absa < absb {
         Factors2 {
-            values: [s[1], s[0]],
+            values: [absb, absa],
             u: u.swap12(),
             v: v.swap12(),
         }
@@ -133,6 +150,7 @@ fn descend_2x2(w: Factors2) -> Factors2
     }
 }
 
+// Signs first, then the order (lines 25 to 69).
 pub fn set_order_and_signs_2x2(a: Real, b: Real, u: Mat2, v: Mat2) -> Factors2
     ensures { λ r. ⌜ r ≡ factors2 (order2Of a b (u .«data») (v .«data»)) ⌝ }
 {

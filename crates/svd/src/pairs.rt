@@ -1,123 +1,133 @@
 // The three pairs of a square 3x3: which is the largest, and what a two-sided rotation makes of the matrix.
 use crate::polar::TwoSided;
 use crate::polar::compute_two_sided_rotation;
-use eigen::pairs::OffDiag;
-use eigen::pairs::Pair;
 use float::sign::magnitude;
+use jacobi::pairs::OffDiag;
+use jacobi::pairs::Pair;
+use jacobi::pairs::largest;
 use matrix::square::Mat3;
 ghost use mathlib.Core.Path.{_≡_};
 ghost use Rattle.float.specs.Width.{F};
 ghost use Rattle.matrix.specs.Square.{mat3};
-ghost use Rattle.svd.specs.Polar.{sides, twoSided};
-ghost use Rattle.svd.specs.Pairs.{offDiagOf, sidesOf, applied12, applied13, applied23, appliedOf};
+ghost use Rattle.jacobi.specs.declared.pairs.Pair.the-variants.{P12, P13, P23};
+ghost use Rattle.svd.specs.Pairs.{offDiagOf, sidesOf, appliedOf};
 
-// The largest of the three by the sum of its two magnitudes, the first on ties.
+// The largest of the three by the sum of its two magnitudes, the first on ties (dense3x3/svd.rs, lines 48 to 62).
 pub fn find_largest_off_diag_nonsym(a: Mat3) -> OffDiag
     ensures { λ r. ⌜ r ≡ offDiagOf F (a .«data») ⌝ }
 {
     let d = a.data;
-    let abs12 = magnitude(d[3]) + magnitude(d[1]);
-    let abs13 = magnitude(d[6]) + magnitude(d[2]);
-    let abs23 = magnitude(d[7]) + magnitude(d[5]);
-    if abs13 > abs12 {
-        if abs23 > abs13 {
-            OffDiag {
-                pair: Pair::P23,
-                size: abs23,
-            }
-        } else {
-            OffDiag {
-                pair: Pair::P13,
-                size: abs13,
-            }
-        }
-    } else {
-        if abs23 > abs12 {
-            OffDiag {
-                pair: Pair::P23,
-                size: abs23,
-            }
-        } else {
-            OffDiag {
-                pair: Pair::P12,
-                size: abs12,
-            }
-        }
-    }
+    let a21 = d[1];
+    let a31 = d[2];
+    let a12 = d[3];
+    let a32 = d[5];
+    let a13 = d[6];
+    let a23 = d[7];
+    let abs12 = magnitude(a12) + magnitude(a21);
+    let abs13 = magnitude(a13) + magnitude(a31);
+    let abs23 = magnitude(a23) + magnitude(a32);
+    largest(abs12, abs13, abs23)
 }
 
-// The two-sided rotation of a pair.
+// The two-sided rotation of a pair (lines 29 and 30).
 pub(crate) fn rotation_of(a: Mat3, p: Pair) -> TwoSided
-    ensures { λ r. ⌜ r ≡ twoSided (sidesOf F p (a .«data»)) ⌝ }
+    ensures { λ r. ⌜ r ≡ sidesOf F p (a .«data») ⌝ }
 {
     let d = a.data;
+    let a11 = d[0];
+    let a21 = d[1];
+    let a31 = d[2];
+    let a12 = d[3];
+    let a22 = d[4];
+    let a32 = d[5];
+    let a13 = d[6];
+    let a23 = d[7];
+    let a33 = d[8];
     match p {
-        Pair::P12 => compute_two_sided_rotation(d[0], d[1], d[3], d[4]),
-        Pair::P13 => compute_two_sided_rotation(d[0], d[2], d[6], d[8]),
-        Pair::P23 => compute_two_sided_rotation(d[4], d[5], d[7], d[8]),
+        Pair::P12 => compute_two_sided_rotation(a11, a21, a12, a22),
+        Pair::P13 => compute_two_sided_rotation(a11, a31, a13, a33),
+        Pair::P23 => compute_two_sided_rotation(a22, a32, a23, a33),
     }
 }
 
+// Rows and columns 1 and 2, with 3 beside them (line 127).
 fn apply12(a: Mat3, r: TwoSided) -> Mat3
-    ensures { λ b. ⌜ b ≡ mat3 (applied12 F (sides r) (a .«data»)) ⌝ }
+    ensures { λ b. ⌜ b ≡ mat3 (appliedOf F P12 r (a .«data»)) ⌝ }
 {
     let d = a.data;
+    let a31 = d[2];
+    let a32 = d[5];
+    let a13 = d[6];
+    let a23 = d[7];
+    let a33 = d[8];
     Mat3 {
         data: [
             r.d1,
             0.0,
-            d[2] * r.cr - d[5] * r.sr,
+            a31 * r.cr - a32 * r.sr,
             0.0,
             r.d2,
-            d[5] * r.cr + d[2] * r.sr,
-            d[6] * r.cl - d[7] * r.sl,
-            d[7] * r.cl + d[6] * r.sl,
-            d[8],
+            a32 * r.cr + a31 * r.sr,
+            a13 * r.cl - a23 * r.sl,
+            a23 * r.cl + a13 * r.sl,
+            a33,
         ],
     }
 }
 
+// Rows and columns 1 and 3, with 2 beside them (line 129).
 fn apply13(a: Mat3, r: TwoSided) -> Mat3
-    ensures { λ b. ⌜ b ≡ mat3 (applied13 F (sides r) (a .«data»)) ⌝ }
+    ensures { λ b. ⌜ b ≡ mat3 (appliedOf F P13 r (a .«data»)) ⌝ }
 {
     let d = a.data;
+    let a21 = d[1];
+    let a12 = d[3];
+    let a22 = d[4];
+    let a32 = d[5];
+    let a23 = d[7];
     Mat3 {
         data: [
             r.d1,
-            d[1] * r.cr - d[7] * r.sr,
+            a21 * r.cr - a23 * r.sr,
             0.0,
-            d[3] * r.cl - d[5] * r.sl,
-            d[4],
-            d[5] * r.cl + d[3] * r.sl,
+            a12 * r.cl - a32 * r.sl,
+            a22,
+            a32 * r.cl + a12 * r.sl,
             0.0,
-            d[7] * r.cr + d[1] * r.sr,
+            a23 * r.cr + a21 * r.sr,
             r.d2,
         ],
     }
 }
 
+// Rows and columns 2 and 3, with 1 beside them (line 132).
 fn apply23(a: Mat3, r: TwoSided) -> Mat3
-    ensures { λ b. ⌜ b ≡ mat3 (applied23 F (sides r) (a .«data»)) ⌝ }
+    ensures { λ b. ⌜ b ≡ mat3 (appliedOf F P23 r (a .«data»)) ⌝ }
 {
     let d = a.data;
+    let a11 = d[0];
+    let a21 = d[1];
+    let a31 = d[2];
+    let a12 = d[3];
+    let a13 = d[6];
     Mat3 {
         data: [
-            d[0],
-            d[1] * r.cl - d[2] * r.sl,
-            d[2] * r.cl + d[1] * r.sl,
-            d[3] * r.cr - d[6] * r.sr,
+            a11,
+            a21 * r.cl - a31 * r.sl,
+            a31 * r.cl + a21 * r.sl,
+            a12 * r.cr - a13 * r.sr,
             r.d1,
             0.0,
-            d[6] * r.cr + d[3] * r.sr,
+            a13 * r.cr + a12 * r.sr,
             0.0,
             r.d2,
         ],
     }
 }
 
-// The matrix after a two-sided rotation of the pair.
+// The matrix after a two-sided rotation of the pair (lines 91 to 138).
 pub fn apply_two_sided_rotation(a: Mat3, p: Pair, r: TwoSided) -> Mat3
-    ensures { λ b. ⌜ b ≡ mat3 (appliedOf F p (sides r) (a .«data»)) ⌝ }
+    ensures { λ b. ⌜ b ≡ mat3 (appliedOf F p r (a .«data»)) ⌝ }
 {
     match p {
         Pair::P12 => apply12(a, r),

@@ -1,13 +1,12 @@
 // One pair of a square matrix: made symmetric by a polar rotation, then diagonal by a Jacobi rotation. Real is f64 (float::width).
-use eigen::rotation::Rotation;
-use eigen::rotation::compute_jacobi_rotation;
 use float::root::root;
 use float::sign::magnitude;
 use float::width::Real;
+use jacobi::rotation::Rotation;
+use jacobi::rotation::compute_jacobi_rotation;
 ghost use mathlib.Core.Path.{_≡_};
 ghost use Rattle.float.specs.Width.{F};
-ghost use Rattle.eigen.specs.Rotation.{turn};
-ghost use Rattle.svd.specs.Polar.{hypotOfSizes, hypotOf, polar, ofPolar, symmetrisedBy, polarBy, polarOf, twoSided, composed, twoSidedOf};
+ghost use Rattle.svd.specs.Polar.{hypotOfSizes, hypotOf, symmetrisedBy, polarBy, polarOf, composed, twoSidedOf};
 
 // Cosine and sine of the polar rotation, and the symmetrised pair.
 pub struct Polar {
@@ -31,6 +30,7 @@ pub struct TwoSided {
     pub s22: Real,
 }
 
+// By the larger and the smaller magnitude (dense3x3/svd.rs, lines 159 to 168).
 fn hypot_of_sizes(large: Real, small: Real) -> Real
     ensures { λ r. ⌜ r ≡ hypotOfSizes F large small ⌝ }
 {
@@ -44,7 +44,7 @@ fn hypot_of_sizes(large: Real, small: Real) -> Real
     large * root(1.0 + r * r)
 }
 
-// The root of x^2 + y^2, by the quotient of the smaller and the larger.
+// The root of x^2 + y^2, by the quotient of the smaller and the larger (lines 141 to 170).
 pub fn hypot_fast(x: Real, y: Real) -> Real
     ensures { λ r. ⌜ r ≡ hypotOf F x y ⌝ }
 {
@@ -57,8 +57,9 @@ pub fn hypot_fast(x: Real, y: Real) -> Real
     }
 }
 
+// The pair turned by cosine c and sine s (lines 188 to 192).
 fn symmetrised(app: Real, aqp: Real, apq: Real, aqq: Real, c: Real, s: Real) -> Polar
-    ensures { λ r. ⌜ r ≡ polar (symmetrisedBy F app aqp apq aqq c s) ⌝ }
+    ensures { λ r. ⌜ r ≡ symmetrisedBy F app aqp apq aqq c s ⌝ }
 {
     Polar {
         c,
@@ -69,8 +70,9 @@ fn symmetrised(app: Real, aqp: Real, apq: Real, aqq: Real, c: Real, s: Real) -> 
     }
 }
 
+// By the sum x of the diagonal, the difference y beside it, and their hypot d (lines 180 to 186).
 fn polar_by(app: Real, aqp: Real, apq: Real, aqq: Real, x: Real, y: Real, d: Real) -> Polar
-    ensures { λ r. ⌜ r ≡ polar (polarBy F app aqp apq aqq x y d) ⌝ }
+    ensures { λ r. ⌜ r ≡ polarBy F app aqp apq aqq x y d ⌝ }
 {
     if d == 0.0 {
         symmetrised(app, aqp, apq, aqq, 1.0, 0.0)
@@ -79,17 +81,18 @@ fn polar_by(app: Real, aqp: Real, apq: Real, aqq: Real, x: Real, y: Real, d: Rea
     }
 }
 
-// A rotation that makes the pair symmetric.
+// A rotation that makes the pair symmetric (lines 172 to 193).
 pub fn compute_polar_2x2(app: Real, aqp: Real, apq: Real, aqq: Real) -> Polar
-    ensures { λ r. ⌜ r ≡ polar (polarOf F app aqp apq aqq) ⌝ }
+    ensures { λ r. ⌜ r ≡ polarOf F app aqp apq aqq ⌝ }
 {
     let x = app + aqq;
     let y = aqp - apq;
     polar_by(app, aqp, apq, aqq, x, y, hypot_fast(x, y))
 }
 
+// The left turn is both rotations, one after the other; the right one is the Jacobi rotation (lines 76 to 85).
 fn compose(p: Polar, j: Rotation) -> TwoSided
-    ensures { λ r. ⌜ r ≡ twoSided (composed F (ofPolar p) (turn j)) ⌝ }
+    ensures { λ r. ⌜ r ≡ composed F p j ⌝ }
 {
     TwoSided {
         cl: p.c * j.c - p.s * j.s,
@@ -104,9 +107,9 @@ fn compose(p: Polar, j: Rotation) -> TwoSided
     }
 }
 
-// The rotation from both sides that makes the pair diagonal.
+// The rotation from both sides that makes the pair diagonal (lines 64 to 88).
 pub fn compute_two_sided_rotation(app: Real, aqp: Real, apq: Real, aqq: Real) -> TwoSided
-    ensures { λ r. ⌜ r ≡ twoSided (twoSidedOf F app aqp apq aqq) ⌝ }
+    ensures { λ r. ⌜ r ≡ twoSidedOf F app aqp apq aqq ⌝ }
 {
     let p = compute_polar_2x2(app, aqp, apq, aqq);
     let j = compute_jacobi_rotation(p.s12, p.s11, p.s22);

@@ -4,6 +4,7 @@ use crate::order::set_order_and_signs_2x2;
 use crate::polar::TwoSided;
 use crate::polar::compute_two_sided_rotation;
 use float::sign::all_finite;
+use float::sign::three_finite;
 use float::width::Real;
 use matrix::codes::ANSWER_NOT_FINITE;
 use matrix::codes::DONE;
@@ -11,9 +12,9 @@ use matrix::codes::INPUT_NOT_FINITE;
 use matrix::square::Mat2;
 ghost use mathlib.Core.Path.{_≡_};
 ghost use Rattle.float.specs.Width.{F};
-ghost use Rattle.svd.specs.Polar.{sides};
+ghost use Rattle.float.specs.Judged.{judged};
 ghost use Rattle.svd.specs.Order.{factors2, ofFactors2};
-ghost use Rattle.svd.specs.Svd2x2.{factors2Of, svd2, refusedSvd2, judgedSvd2, svd2Of};
+ghost use Rattle.svd.specs.Svd2x2.{factors2Of, svd2, refusedSvd2, numbers2Of, answer2Of, svd2Of};
 
 pub struct Svd2 {
     pub code: u8,
@@ -23,8 +24,9 @@ pub struct Svd2 {
     pub v: Mat2,
 }
 
+// The turns by columns, and the order of what they leave (dense2x2/svd.rs, lines 43 to 51).
 fn factors(r: TwoSided) -> Factors2
-    ensures { λ w. ⌜ w ≡ factors2 (factors2Of (sides r)) ⌝ }
+    ensures { λ w. ⌜ w ≡ factors2 (factors2Of r) ⌝ }
 {
     let u = Mat2 {
         data: [r.cl, -r.sl, r.sl, r.cl],
@@ -47,39 +49,38 @@ fn refused(code: u8) -> Svd2
     }
 }
 
+// The answer, if all its numbers are finite.
 fn judge(w: Factors2) -> Svd2
-    ensures { λ r. ⌜ r ≡ svd2 (judgedSvd2 F (ofFactors2 w)) ⌝ }
+    ensures { λ r. ⌜ r ≡ svd2 (judged (refusedSvd2 F) 7 (numbers2Of (ofFactors2 w)) (answer2Of (ofFactors2 w))) ⌝ }
 {
     let values = w.values;
     let u = w.u;
     let v = w.v;
     let d = u.data;
     let e = v.data;
-    if !all_finite(&values) {
-        return refused(ANSWER_NOT_FINITE);
+    if three_finite(&values, &d, &e) {
+        return Svd2 {
+            code: DONE,
+            settled: true,
+            values,
+            u,
+            v,
+        };
     }
-    if !all_finite(&d) {
-        return refused(ANSWER_NOT_FINITE);
-    }
-    if !all_finite(&e) {
-        return refused(ANSWER_NOT_FINITE);
-    }
-    Svd2 {
-        code: DONE,
-        settled: true,
-        values,
-        u,
-        v,
-    }
+    refused(ANSWER_NOT_FINITE)
 }
 
-// Values in descending order, with the columns of U and V.
+// Values in descending order, with the columns of U and V (lines 11 to 21).
 pub fn svd(a: Mat2) -> Svd2
     ensures { λ r. ⌜ r ≡ svd2 (svd2Of F (a .«data»)) ⌝ }
 {
     let d = a.data;
-    if !all_finite(&d) {
-        return refused(INPUT_NOT_FINITE);
+    if all_finite(&d) {
+        let a11 = d[0];
+        let a21 = d[1];
+        let a12 = d[2];
+        let a22 = d[3];
+        return judge(factors(compute_two_sided_rotation(a11, a21, a12, a22)));
     }
-    judge(factors(compute_two_sided_rotation(d[0], d[1], d[2], d[3])))
+    refused(INPUT_NOT_FINITE)
 }

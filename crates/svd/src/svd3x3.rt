@@ -4,31 +4,36 @@ use crate::order::fix_order_and_signs_3x3;
 use crate::pairs::apply_two_sided_rotation;
 use crate::pairs::find_largest_off_diag_nonsym;
 use crate::pairs::rotation_of;
-use eigen::pairs::turn_columns;
 use float::sign::all_finite;
+use float::sign::three_finite;
 use float::width::LIMIT;
 use float::width::Real;
+use jacobi::made::Made;
+use jacobi::pairs::OffDiag;
+use jacobi::pairs::turn_columns;
 use matrix::codes::ANSWER_NOT_FINITE;
 use matrix::codes::DONE;
 use matrix::codes::INPUT_NOT_FINITE;
 use matrix::square::Mat3;
 ghost use mathlib.Core.Path.{_≡_};
+ghost use lib.Ieee.{lt};
 ghost use Rattle.float.specs.Width.{F};
 ghost use Rattle.float.specs.Constants.{limitF};
-ghost use Rattle.svd.specs.Order.{factors3, ofFactors3};
-ghost use Rattle.svd.specs.Svd3x3.{working, ofWorking, settledOf, workOf, startOf, svd3, refusedSvd, factorsOf, judgedSvd, svdOf};
+ghost use Rattle.float.specs.Judged.{judged};
+ghost use Rattle.svd.specs.Order.{factors3};
+ghost use Rattle.svd.specs.Svd3x3.{working, ofWorking, settledOf, lastOf, svd3, refusedSvd, factorsOf, numbersOf, answerOf, svdOf};
 
 // A working state.
 pub struct Working {
     pub a: Mat3,
     pub u: Mat3,
     pub v: Mat3,
-    pub count: u8,
+    pub made: Made,
 }
 
 pub struct Svd3 {
     pub code: u8,
-    pub count: u8,
+    pub made: Made,
     pub settled: bool,
     pub values: [Real; 3],
     pub u: Mat3,
@@ -36,41 +41,45 @@ pub struct Svd3 {
     pub worked: Mat3,
 }
 
-// The crate's limit: 2^-44.
-fn limit() -> Real
-    ensures { λ r. ⌜ r ≡ limitF F ⌝ }
+// Strictly under the crate's limit, 256 times the distance from 1 to the next number: 2^-44 (dense3x3/svd.rs, lines 18 and 25).
+fn under_limit(largest: OffDiag) -> bool
+    ensures { λ r. ⌜ r ≡ lt (largest .size) (limitF F) ⌝ }
 {
-    LIMIT
+    largest.size < LIMIT
 }
 
 fn is_settled(a: Mat3) -> bool
     ensures { λ r. ⌜ r ≡ settledOf F (a .«data») ⌝ }
 {
-    let largest = find_largest_off_diag_nonsym(a);
-    largest.size < limit()
+    under_limit(find_largest_off_diag_nonsym(a))
 }
 
-// The run of at most 25 rotations.
+// The rotations that a call may make (line 21).
+const MOST: u8 = 25;
+
+// The run (lines 15 to 37).
 fn work(a: Mat3) -> Working
-    ensures { λ w. ⌜ w ≡ working (workOf F 25 (startOf F (a .«data»))) ⌝ }
+    ensures { λ w. ⌜ w ≡ working (lastOf F (a .«data»)) ⌝ }
 {
     let mut b = a;
     let mut u = Mat3::zeros().set_identity();
     let mut v = Mat3::zeros().set_identity();
-    let mut count: u8 = 0;
-    while count < 25 {
+    let mut made = Made { count: 0 };
+    while made.count < MOST {
         let largest = find_largest_off_diag_nonsym(b);
-        if largest.size < limit() {
-            return Working { a: b, u, v, count };
+        if under_limit(largest) {
+            return Working { a: b, u, v, made };
         }
         let p = largest.pair;
         let r = rotation_of(b, p);
         b = apply_two_sided_rotation(b, p, r);
         u = turn_columns(u, p, r.cl, r.sl);
         v = turn_columns(v, p, r.cr, r.sr);
-        count += 1;
+        made = Made {
+            count: made.count + 1,
+        };
     }
-    Working { a: b, u, v, count }
+    Working { a: b, u, v, made }
 }
 
 fn refused(code: u8) -> Svd3
@@ -78,7 +87,7 @@ fn refused(code: u8) -> Svd3
 {
     Svd3 {
         code,
-        count: 0,
+        made: Made { count: 0 },
         settled: false,
         values: [0.0; 3],
         u: Mat3 { data: [0.0; 9] },
@@ -87,7 +96,7 @@ fn refused(code: u8) -> Svd3
     }
 }
 
-// The diagonal's values in order, with their columns.
+// The diagonal's values in order, with their columns (line 39).
 fn factors(w: Working) -> Factors3
     ensures { λ r. ⌜ r ≡ factors3 (factorsOf (ofWorking w)) ⌝ }
 {
@@ -95,49 +104,47 @@ fn factors(w: Working) -> Factors3
     let u = w.u;
     let v = w.v;
     let d = a.data;
-    fix_order_and_signs_3x3(d[0], d[4], d[8], u, v)
+    let a11 = d[0];
+    let a22 = d[4];
+    let a33 = d[8];
+    fix_order_and_signs_3x3(a11, a22, a33, u, v)
 }
 
 // The answer, if all its numbers are finite. The values are magnitudes of numbers of the matrix.
-fn judge(w: Working, x: Factors3) -> Svd3
-    ensures { λ r. ⌜ r ≡ svd3 (judgedSvd F (ofWorking w) (ofFactors3 x)) ⌝ }
+fn judge(w: Working) -> Svd3
+    ensures { λ r. ⌜ r ≡ svd3 (judged (refusedSvd F) 7 (numbersOf (ofWorking w)) (answerOf F (ofWorking w))) ⌝ }
 {
-    let a = w.a;
+    let x = factors(w);
+    let values = x.values;
     let u = x.u;
     let v = x.v;
-    let values = x.values;
+    let a = w.a;
     let d = a.data;
     let e = u.data;
     let f = v.data;
-    if !all_finite(&d) {
-        return refused(ANSWER_NOT_FINITE);
+    if three_finite(&d, &e, &f) {
+        let made = w.made;
+        let settled = is_settled(a);
+        return Svd3 {
+            code: DONE,
+            made,
+            settled,
+            values,
+            u,
+            v,
+            worked: a,
+        };
     }
-    if !all_finite(&e) {
-        return refused(ANSWER_NOT_FINITE);
-    }
-    if !all_finite(&f) {
-        return refused(ANSWER_NOT_FINITE);
-    }
-    let settled = is_settled(a);
-    Svd3 {
-        code: DONE,
-        count: w.count,
-        settled,
-        values,
-        u,
-        v,
-        worked: a,
-    }
+    refused(ANSWER_NOT_FINITE)
 }
 
-// Values in descending order, with the columns of U and V.
+// Values in descending order, with the columns of U and V (lines 11 to 40).
 pub fn svd(a: Mat3) -> Svd3
     ensures { λ r. ⌜ r ≡ svd3 (svdOf F (a .«data»)) ⌝ }
 {
     let d = a.data;
-    if !all_finite(&d) {
-        return refused(INPUT_NOT_FINITE);
+    if all_finite(&d) {
+        return judge(work(a));
     }
-    let w = work(a);
-    judge(w, factors(w))
+    refused(INPUT_NOT_FINITE)
 }

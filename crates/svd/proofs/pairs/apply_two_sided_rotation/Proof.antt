@@ -1,6 +1,5 @@
 -- Each return is one pair, and the call there answers for it.
 use borrow.Author.Needs.{needs}
-use Rattle.svd.specs.Pairs.{appliedOf}
 use Rattle.svd.proofs.pairs.apply_two_sided_rotation.Statement.{statement}
 use Rattle.svd.proofs.pairs.apply_two_sided_rotation.Tie as tie
 
@@ -8,15 +7,12 @@ enum-told : tie.Need-enum-told
 enum-told c = search needs
 
 returns : tie.Need-returns
-unfolding appliedOf
 returns c = rw (c .before .enum-told .given .1) (c .apply12 .ensures)
 
 returns-2 : tie.Need-returns-2
-unfolding appliedOf
 returns-2 c = rw (c .before .enum-told2 .given .1) (c .apply13 .ensures)
 
 returns-3 : tie.Need-returns-3
-unfolding appliedOf
 returns-3 c = rw (c .before .enum-told3 .given .1) (c .apply23 .ensures)
 
 pub apply-two-sided-rotation-spec : {M : Type 1} → statement M

@@ -1,56 +1,31 @@
--- Each return is one outcome of the tests of values, U and V.
+-- Each return is one outcome of the test of values, U and V.
+use mathlib.Core.Path.{sym, ap, _∙_}
 use borrow.Author.Needs.{needs}
-use Rattle.svd.specs.Svd2x2.{judgedSvd2}
-use Rattle.float.proofs.Branches.{fails, passes}
+use Rattle.float.specs.Width.{F}
+use Rattle.float.proofs.Judged.{stands, refuses}
+use Rattle.svd.specs.Order.{ofFactors2}
+use Rattle.svd.specs.Svd2x2.{svd2, refusedSvd2, numbers2Of, answer2Of}
 use Rattle.svd.proofs.svd2x2.judge.Statement.{statement}
 use Rattle.svd.proofs.svd2x2.judge.Tie as tie
 
 returns : tie.Need-returns
-unfolding judgedSvd2
-returns c = simp (c .refused .ensures, fails (c .before .before .all-finite .ensures) (c .before .if1 .taken))
+returns c =
+    let w = ofFactors2 (c .before .before .before .before .before .before .before .before .before .before .args .w) in
+    ap svd2 (sym (stands (refusedSvd2 F) 7 (numbers2Of w) (answer2Of w) (c .before .three-finite .ensures) (c .if1 .taken)))
 
 returns-2 : tie.Need-returns-2
-unfolding judgedSvd2
 returns-2 c =
-    simp (
-      c .refused2 .ensures,
-      passes (c .before .before .before .before .before .all-finite .ensures) (c .before .before .before .before .if1 .left),
-      fails (c .before .before .all-finite2 .ensures) (c .before .if2 .taken),
-    )
-
-returns-3 : tie.Need-returns-3
-unfolding judgedSvd2
-returns-3 c =
-    simp (
-      c .refused3 .ensures,
-      passes (c .before .before .before .before .before .before .before .before .all-finite .ensures) (c .before .before .before .before .before .before .before .if1 .left),
-      passes (c .before .before .before .before .before .all-finite2 .ensures) (c .before .before .before .before .if2 .left),
-      fails (c .before .before .all-finite3 .ensures) (c .before .if3 .taken),
-    )
-
-returns-4 : tie.Need-returns-4
-unfolding judgedSvd2
-returns-4 c =
-    simp (
-      passes (c .before .before .before .before .before .before .before .all-finite .ensures) (c .before .before .before .before .before .before .if1 .left),
-      passes (c .before .before .before .before .all-finite2 .ensures) (c .before .before .before .if2 .left),
-      passes (c .before .all-finite3 .ensures) (c .if3 .left),
-    )
+    let w = ofFactors2 (c .before .before .before .before .before .before .before .before .before .before .before .args .w) in
+    c .refused .ensures ∙ ap svd2 (sym (refuses (refusedSvd2 F) 7 (numbers2Of w) (answer2Of w) (c .before .before .three-finite .ensures) (c .before .if1 .left)))
 
 pub judge-spec : {M : Type 1} → statement M
 judge-spec =
     tie.close
     (tie.spec
     (λ c. search needs)
-    (λ c κs. search needs)
+    (λ c. search needs)
+    (λ c. search needs)
     (λ c κs. search needs)
     returns
-    (λ c. search needs)
     (λ c κs. search needs)
-    (λ c κs. search needs)
-    returns-2
-    (λ c. search needs)
-    (λ c κs. search needs)
-    (λ c κs. search needs)
-    returns-3
-    returns-4)
+    returns-2)

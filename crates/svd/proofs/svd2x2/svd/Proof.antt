@@ -1,27 +1,29 @@
 -- Each return is one outcome of the test of the input.
-use mathlib.Core.Path.{ap, _∙_}
+use mathlib.Core.Path.{sym, ap, _∙_}
 use borrow.Author.Needs.{needs}
 use Rattle.float.specs.Width.{F}
-use Rattle.svd.specs.Polar.{sides}
-use Rattle.svd.specs.Order.{factors2, ofFactors2}
-use Rattle.svd.specs.Svd2x2.{factors2Of, svd2, judgedSvd2, svd2Of}
-use Rattle.svd.specs.declared.polar.TwoSided.{TwoSided}
-use Rattle.svd.specs.declared.order.Factors2.{Factors2}
-use Rattle.float.proofs.Branches.{fails, passes}
+use Rattle.float.specs.Judged.{judged}
+use Rattle.float.proofs.Judged.{stands, refuses}
+use Rattle.svd.specs.Svd2x2.{sides2Of, factors2Of, svd2, refusedSvd2, numbers2Of, answer2Of, end2Of, svd2Of}
 use Rattle.svd.proofs.svd2x2.svd.Statement.{statement}
 use Rattle.svd.proofs.svd2x2.svd.Tie as tie
 
 returns : tie.Need-returns
-unfolding svd2Of
-returns c = simp (c .refused .ensures, fails (c .before .before .all-finite .ensures) (c .before .if1 .taken))
+unfolding svd2Of end2Of
+returns c =
+    let test = c .before .before .before in
+    let a = test .before .before .before .before .args .a .«data» in
+    let w = factors2Of (sides2Of F a) in
+    rw (stands (refusedSvd2 F) 5 a (judged (refusedSvd2 F) 7 (numbers2Of w) (answer2Of w)) (test .before .all-finite .ensures) (test .if1 .taken))
+    (rw (c .judge .ensures, c .before .factors .ensures, c .before .before .compute-two-sided-rotation .ensures))
 
 returns-2 : tie.Need-returns-2
-unfolding svd2Of
+unfolding svd2Of end2Of
 returns-2 c =
-    rw (passes (c .before .before .before .before .all-finite .ensures) (c .before .before .before .if1 .left))
-    (c .judge .ensures
-    ∙ ap (λ (w : Factors2). svd2 (judgedSvd2 F (ofFactors2 w)))
-    (c .before .factors .ensures ∙ ap (λ (r : TwoSided). factors2 (factors2Of (sides r))) (c .before .before .compute-two-sided-rotation .ensures)))
+    let a = c .before .before .before .before .before .args .a .«data» in
+    let w = factors2Of (sides2Of F a) in
+    rw (refuses (refusedSvd2 F) 5 a (judged (refusedSvd2 F) 7 (numbers2Of w) (answer2Of w)) (c .before .before .all-finite .ensures) (c .before .if1 .left))
+    (c .refused .ensures)
 
 pub svd-spec : {M : Type 1} → statement M
 svd-spec =
@@ -29,13 +31,13 @@ svd-spec =
     (tie.spec
     (λ c. search needs)
     (λ c κs. search needs)
+    (λ c. search needs)
+    (λ c. search needs)
+    (λ c. search needs)
+    (λ c. search needs)
+    (λ c κs. search needs)
+    (λ c κs. search needs)
     (λ c κs. search needs)
     returns
-    (λ c. search needs)
-    (λ c. search needs)
-    (λ c. search needs)
-    (λ c. search needs)
-    (λ c κs. search needs)
-    (λ c κs. search needs)
     (λ c κs. search needs)
     returns-2)

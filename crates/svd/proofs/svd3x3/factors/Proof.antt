@@ -9,11 +9,4 @@ unfolding factorsOf
 returns c = c .fix-order-and-signs-3x3 .ensures
 
 pub factors-spec : {M : Type 1} → statement M
-factors-spec =
-    tie.close
-    (tie.spec
-    (λ c. search needs)
-    (λ c. search needs)
-    (λ c. search needs)
-    (λ c κs. search needs)
-    returns)
+factors-spec = tie.close (tie.spec (λ c. search needs) (λ c. search needs) (λ c. search needs) (λ c κs. search needs) returns)

@@ -1,12 +1,12 @@
--- The sum of the largest pair and the limit are those of the definition.
+-- The sum of the largest pair is that of the definition.
 use borrow.Author.Needs.{needs}
 use Rattle.float.specs.Width.{F}
-use Rattle.svd.proofs.Turns.{tested}
+use Rattle.svd.proofs.Rounds.{tested}
 use Rattle.svd.proofs.svd3x3.is_settled.Statement.{statement}
 use Rattle.svd.proofs.svd3x3.is_settled.Tie as tie
 
 returns : tie.Need-returns
-returns c = tested F _ (c .before .before .find-largest-off-diag-nonsym .ensures) (c .before .limit .ensures)
+returns c = tested F _ (c .before .find-largest-off-diag-nonsym .ensures) (c .under-limit .ensures)
 
 pub is-settled-spec : {M : Type 1} → statement M
 is-settled-spec = tie.close (tie.spec (λ c κs. search needs) (λ c κs. search needs) returns)

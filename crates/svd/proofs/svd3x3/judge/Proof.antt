@@ -1,58 +1,45 @@
--- Each return is one outcome of the tests of matrix, U and V.
+-- Each return is one outcome of the test of matrix, U and V.
+use mathlib.Core.Path.{_≡_, sym, ap, _∙_}
+use mathlib.Core.List.{_++_}
 use borrow.Author.Needs.{needs}
-use Rattle.svd.specs.Svd3x3.{judgedSvd}
-use Rattle.float.proofs.Branches.{fails, passes}
+use Rattle.float.specs.Width.{F}
+use Rattle.float.specs.Sign.{allFinite}
+use Rattle.float.proofs.Judged.{stands, refuses}
+use Rattle.svd.specs.Svd3x3.{ofWorking, svd3, refusedSvd, numbersOf, answerOf}
+use Rattle.svd.specs.declared.order.Factors3.{Factors3}
 use Rattle.svd.proofs.svd3x3.judge.Statement.{statement}
 use Rattle.svd.proofs.svd3x3.judge.Tie as tie
 
+-- the numbers tested are those of the state
+numbers : (c : tie.After-three-finite) → c .three-finite .result ≡ allFinite (numbersOf (ofWorking (c .before .before .before .before .before .before .before .before .before .before .before .before .args .w)))
+numbers c =
+    let first = c .before .before .before .before .before .before .before .before .before .before .before in
+    c .three-finite .ensures
+    ∙ ap (λ (x : Factors3). allFinite (first .before .args .w .a .«data» ++ (x .u .«data» ++ x .v .«data»))) (first .factors .ensures)
+
 returns : tie.Need-returns
-unfolding judgedSvd
-returns c = simp (c .refused .ensures, fails (c .before .before .all-finite .ensures) (c .before .if1 .taken))
+returns c =
+    let test = c .before .before .before in
+    let s = ofWorking (test .before .before .before .before .before .before .before .before .before .before .before .before .args .w) in
+    rw (stands (refusedSvd F) 7 (numbersOf s) (answerOf F s) (numbers test) (c .before .before .if1 .taken))
+    (rw (c .is-settled .ensures, test .before .before .before .before .before .before .before .before .before .before .before .factors .ensures))
 
 returns-2 : tie.Need-returns-2
-unfolding judgedSvd
 returns-2 c =
-    simp (
-      c .refused2 .ensures,
-      passes (c .before .before .before .before .before .all-finite .ensures) (c .before .before .before .before .if1 .left),
-      fails (c .before .before .all-finite2 .ensures) (c .before .if2 .taken),
-    )
-
-returns-3 : tie.Need-returns-3
-unfolding judgedSvd
-returns-3 c =
-    simp (
-      c .refused3 .ensures,
-      passes (c .before .before .before .before .before .before .before .before .all-finite .ensures) (c .before .before .before .before .before .before .before .if1 .left),
-      passes (c .before .before .before .before .before .all-finite2 .ensures) (c .before .before .before .before .if2 .left),
-      fails (c .before .before .all-finite3 .ensures) (c .before .if3 .taken),
-    )
-
-returns-4 : tie.Need-returns-4
-unfolding judgedSvd
-returns-4 c =
-    simp (
-      c .is-settled .ensures,
-      passes (c .before .before .before .before .before .before .before .before .all-finite .ensures) (c .before .before .before .before .before .before .before .if1 .left),
-      passes (c .before .before .before .before .before .all-finite2 .ensures) (c .before .before .before .before .if2 .left),
-      passes (c .before .before .all-finite3 .ensures) (c .before .if3 .left),
-    )
+    let test = c .before .before in
+    let s = ofWorking (test .before .before .before .before .before .before .before .before .before .before .before .before .args .w) in
+    c .refused .ensures ∙ ap svd3 (sym (refuses (refusedSvd F) 7 (numbersOf s) (answerOf F s) (numbers test) (c .before .if1 .left)))
 
 pub judge-spec : {M : Type 1} → statement M
 judge-spec =
     tie.close
     (tie.spec
+    (λ c κs. search needs)
+    (λ c. search needs)
+    (λ c. search needs)
     (λ c. search needs)
     (λ c κs. search needs)
     (λ c κs. search needs)
     returns
-    (λ c. search needs)
     (λ c κs. search needs)
-    (λ c κs. search needs)
-    returns-2
-    (λ c. search needs)
-    (λ c κs. search needs)
-    (λ c κs. search needs)
-    returns-3
-    (λ c κs. search needs)
-    returns-4)
+    returns-2)

@@ -1,4 +1,4 @@
--- The invariant: what is left of the run, from the state at hand, leaves what the whole run leaves. The measure is the turns left.
+-- The invariant: what is left of the run, from the state at hand, leaves what the whole run leaves. The measure is the rotations left.
 use mathlib.Core.Path.{_≡_, sym, ap, _∙_}
 use mathlib.Core.Bool.{Bool}
 use Prim.Native.Nat.{ℕ, _+_, _-_, _≤_}
@@ -6,54 +6,56 @@ use native.Mathlib.Omega.{arith}
 use borrow.Author.Needs.{needs}
 use Rattle.float.specs.Width.{F}
 use Rattle.matrix.specs.declared.square.Mat3.{Mat3}
-use Rattle.eigen.proofs.Run.{leaves, turns-once, used-up}
-use Rattle.svd.specs.Svd3x3.{State, working, settledOf, stepOf, workOf, startOf}
-use Rattle.svd.proofs.Turns.{tested, next-state}
+use Rattle.jacobi.specs.declared.made.Made.{Made}
+use Rattle.jacobi.proofs.Run.{leaves, turns-once, used-up}
+use Rattle.svd.specs.Svd3x3.{State, working, settledOf, stepOf, runOf, lastOf}
+use Rattle.svd.proofs.Rounds.{tested, next-state}
 use Rattle.svd.proofs.svd3x3.work.Statement.{statement}
 use Rattle.svd.proofs.svd3x3.work.Tie as tie
 
-abbrev state : Mat3 → Mat3 → Mat3 → ℕ → State
-state b u v n = record { matrix = b .«data»; u = u .«data»; v = v .«data»; count = n }
+abbrev state : Mat3 → Mat3 → Mat3 → Made → State
+state b u v made = record { matrix = b .«data»; u = u .«data»; v = v .«data»; made = made }
 
 abbrev done : State → Bool
 done s = settledOf F (s .matrix)
 
 abbrev Inv-loop : tie.InvT-loop
-Inv-loop b₀ u₀ v₀ count₀ b u v count = (count ≤ 25) × (workOf F (25 - count) (state b u v count) ≡ workOf F 25 (startOf F (b₀ .«data»)))
+Inv-loop b₀ u₀ v₀ made₀ b u v made = (made .count ≤ 25) × (runOf F (25 - made .count) (state b u v made) ≡ lastOf F (b₀ .«data»))
 
 abbrev μ-loop : tie.MeasureT-loop
-μ-loop b₀ u₀ v₀ count₀ b u v count = 25 - count
+μ-loop b₀ u₀ v₀ made₀ b u v made = 25 - made .count
 
 loop-holds : tie.Need-loop-holds Inv-loop μ-loop
 loop-holds c = (omega arith, rw (c .set-identity2 .ensures, c .before .before .set-identity .ensures))
 
 returns : tie.Need-returns Inv-loop μ-loop
-unfolding workOf
+unfolding runOf
 returns c =
     let l = c .before .before .before .before .before .loop in
-    let h = sym (tested F (l .b .«data») (c .before .before .before .find-largest-off-diag-nonsym .ensures) (c .before .before .limit .ensures)) ∙ c .if1 .taken in
-    ap working (leaves (stepOf F) done 25 (l .count) (state (l .b) (l .u) (l .v) (l .count)) h (l .inv .1))
+    let h = sym (tested F (l .b .«data») (c .before .before .find-largest-off-diag-nonsym .ensures) (c .before .under-limit .ensures)) ∙ c .if2 .taken in
+    ap working (leaves (stepOf F) done 25 (l .made .count) (state (l .b) (l .u) (l .v) (l .made)) h (l .inv .1))
 
 loop-again : tie.Need-loop-again Inv-loop μ-loop
-unfolding workOf
+unfolding runOf
 loop-again c =
-    let e = c .before .before .before .before in
+    let q = c .before in
+    let e = q .before .before .before .before in
     let l = e .before .before .before .before .before .loop in
-    let o = e .before .before .before .find-largest-off-diag-nonsym .ensures in
-    let h = sym (tested F (l .b .«data») o (e .before .before .limit .ensures)) ∙ e .if1 .left in
+    let o = e .before .before .find-largest-off-diag-nonsym .ensures in
+    let h = sym (tested F (l .b .«data») o (e .before .under-limit .ensures)) ∙ e .if2 .left in
     let s =
-    next-state F (l .b .«data») o (l .count) (l .u .«data») (l .v .«data») (c .before .before .before .rotation-of .ensures)
-    (c .before .before .apply-two-sided-rotation .ensures) (c .before .turn-columns .ensures) (c .turn-columns2 .ensures) in (
+    next-state F (l .b .«data») o (l .u .«data») (l .v .«data») (l .made) (q .before .before .before .rotation-of .ensures)
+    (q .before .before .apply-two-sided-rotation .ensures) (q .before .turn-columns .ensures) (q .turn-columns2 .ensures) in (
       omega arith,
-      ap (workOf F (25 - (l .count + 1))) s
-          ∙ turns-once (stepOf F) done 25 (l .count) (state (l .b) (l .u) (l .v) (l .count)) (omega arith) h (l .inv .1),
+      ap (runOf F (25 - (l .made .count + 1))) s
+          ∙ turns-once (stepOf F) done 25 (l .made .count) (state (l .b) (l .u) (l .v) (l .made)) (omega arith) h (l .inv .1),
     )
 
 returns-2 : tie.Need-returns-2 Inv-loop μ-loop
-unfolding workOf
+unfolding runOf
 returns-2 c =
-    let l = c .before .loop in
-    ap working (used-up (stepOf F) done 25 (l .count) (state (l .b) (l .u) (l .v) (l .count)) (omega arith) (l .inv .1))
+    let l = c .before .before .loop in
+    ap working (used-up (stepOf F) done 25 (l .made .count) (state (l .b) (l .u) (l .v) (l .made)) (omega arith) (l .inv .1))
 
 pub work-spec : {M : Type 1} → statement M
 work-spec =

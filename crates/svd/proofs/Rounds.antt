@@ -1,0 +1,27 @@
+-- One round of the loop makes the definition's test and step, since each of its calls answers by the definition's names.
+use mathlib.Core.Path.{_≡_}
+use mathlib.Core.Bool.{Bool}
+use mathlib.Core.List.{List}
+use lib.Ieee.{Float, Format, lt}
+use Rattle.float.specs.Constants.{limitF}
+use Rattle.matrix.specs.declared.square.Mat3.{Mat3}
+use Rattle.matrix.specs.Square.{mat3}
+use Rattle.jacobi.specs.Pairs.{turnedOf}
+use Rattle.jacobi.specs.Run.{oneMore}
+use Rattle.jacobi.specs.declared.made.Made.{Made}
+use Rattle.jacobi.specs.declared.pairs.OffDiag.{OffDiag}
+use Rattle.svd.specs.Pairs.{offDiagOf, sidesOf, appliedOf}
+use Rattle.svd.specs.Svd3x3.{State, settledOf, stepOf}
+use Rattle.svd.specs.declared.polar.TwoSided.{TwoSided}
+
+module _ (f : Format) (a : List Float) {largest : OffDiag} (is : largest ≡ offDiagOf f a) where
+  -- t is what was answered of the limit
+  pub tested : {t : Bool} → t ≡ lt (largest .size) (limitF f) → t ≡ settledOf f a
+  unfolding settledOf
+  tested e = simp (e, is)
+
+  pub next-state : (u v : List Float) (made : Made) {r : TwoSided} {b p q : Mat3} → r ≡ sidesOf f (largest .pair) a → b ≡ mat3 (appliedOf f (largest .pair) r a)
+      → p ≡ mat3 (turnedOf f (largest .pair) (r .cl) (r .sl) u) → q ≡ mat3 (turnedOf f (largest .pair) (r .cr) (r .sr) v)
+      → _≡_ {A = State} (record { matrix = b .«data»; u = p .«data»; v = q .«data»; made = oneMore made }) (stepOf f (record { matrix = a; u = u; v = v; made = made }))
+  unfolding stepOf
+  next-state u v made sides applied left right = simp (applied, left, right, sides, is)
