@@ -1,12 +1,11 @@
 -- The solution x of L L' x = b by forward and backward substitution. Definitions only.
 use mathlib.Core.List.{List, [], _∷_, _++_}
 use Prim.Native.Nat.{ℕ}
-use lib.Dec.{leb, eqb}
-use lib.ListN.{length, take}
+use lib.Dec.{eqb}
 use lib.Ieee.{Float, Format, sub, mul, div}
 use Rattle.float.specs.Choice.{pick}
 use Rattle.float.specs.Judged.{judged}
-use Rattle.matrix.specs.Answer.{Answer, refused, answerAll, putOf, zeros}
+use Rattle.matrix.specs.Answer.{Answer, answerAll, onFirst, zeros}
 use Rattle.matrix.specs.Places.{at, triangular}
 use Rattle.matrix.specs.Symmetric.{sym2, sym3}
 use Rattle.cholesky.specs.Factor.{FactorAnswer, ifWhole, steps2Of, steps3Of}
@@ -31,20 +30,16 @@ solution3Of f l b =
     let x1 = div f (sub f c1 (mul f (at l 4) x2)) (at l 2) in
     div f (sub f (sub f c0 (mul f (at l 1) x1)) (mul f (at l 3) x2)) (at l 0) ∷ x1 ∷ x2 ∷ []
 
--- ---- judged, and on lent slices of n places or more, of which the first n count
+-- ---- judged, and on slices of n places or more
 
 abbrev pub judgedSolution : Format → ℕ → (List Float → List Float → List Float) → List Float → List Float → Answer (List Float)
 judgedSolution f n solution l b = answerAll f n (l ++ b) (solution l b)
 
-abbrev pub solveOf : Format → ℕ → (List Float → List Float → List Float) → List Float → List Float → List Float → Answer (List Float)
-solveOf f n solution l b x =
-    pick (leb n (length x)) (pick (leb n (length b)) (putOf n (judgedSolution f n solution l (take n b)) x) (refused 1 x)) (refused 2 x)
-
 unfoldable pub solve2Of : Format → List Float → List Float → List Float → Answer (List Float)
-solve2Of f l b x = solveOf f 2 (solution2Of f) l b x
+solve2Of f l b x = onFirst 2 (judgedSolution f 2 (solution2Of f) l) b x
 
 unfoldable pub solve3Of : Format → List Float → List Float → List Float → Answer (List Float)
-solve3Of f l b x = solveOf f 3 (solution3Of f) l b x
+solve3Of f l b x = onFirst 3 (judgedSolution f 3 (solution3Of f) l) b x
 
 -- ---- factor and solve in one: 5, 6 and 7 in that order, and all numbers +0 on refusal but the pivot's
 

@@ -3,7 +3,7 @@ use mathlib.Core.Path.{_≡_}
 use mathlib.Core.List.{List, [], _∷_, _++_}
 use Prim.Native.Nat.{ℕ}
 use lib.Dec.{leb, eqb}
-use lib.ListN.{length, drop, replicate}
+use lib.ListN.{length, take, drop, replicate}
 use lib.Ieee.{Float, Format}
 use Rattle.float.specs.Choice.{pick}
 use Rattle.float.specs.Constants.{zeroF}
@@ -86,6 +86,10 @@ ofNumbers3 p = record { code = p .code; value = p .values }
 
 unfoldable pub putOf : ℕ → Answer (List Float) → List Float → Answer (List Float)
 putOf n a y = pick (leb n (length y)) (record { code = a .code; value = pick (eqb (a .code) 0) (a .value ++ drop n y) y }) (refused 2 y)
+
+-- a call on slices of n places or more, of which the first n count: x is read, and y is lent
+abbrev pub onFirst : ℕ → (List Float → Answer (List Float)) → List Float → List Float → Answer (List Float)
+onFirst n call x y = pick (leb n (length y)) (pick (leb n (length x)) (putOf n (call (take n x)) y) (refused 1 y)) (refused 2 y)
 
 -- what a call on a lent slice promises: the code, and the slice's content at exit
 abbrev pub Outcome : Answer (List Float) → ℕ → List Float → Type 0

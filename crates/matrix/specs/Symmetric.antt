@@ -7,7 +7,7 @@ use lib.Ieee.{Float, Format, add, mul}
 use Rattle.float.specs.Choice.{pick}
 use Rattle.float.specs.Constants.{zeroF, twoF}
 use Rattle.float.specs.Root.{rootOf}
-use Rattle.matrix.specs.Answer.{Answer, refused, refusedOne, answerOne, answerAll, putOf}
+use Rattle.matrix.specs.Answer.{Answer, refusedOne, answerOne, answerAll, onFirst}
 use Rattle.matrix.specs.Places.{at, tabulate, triangular}
 use Rattle.matrix.specs.declared.symmetric.Sym2.{Sym2}
 use Rattle.matrix.specs.declared.symmetric.Sym3.{Sym3}
@@ -61,9 +61,8 @@ symTimesOf f h x = row1Of f h x ∷ row2Of f h x ∷ row3Of f h x ∷ []
 unfoldable pub symProductOf : Format → List Float → List Float → Answer (List Float)
 symProductOf f h x = answerAll f 3 (h ++ x) (symTimesOf f h x)
 
--- on slices of three places or more, of which the first three count
 unfoldable pub symMulOf : Format → List Float → List Float → List Float → Answer (List Float)
-symMulOf f h x y = pick (leb 3 (length y)) (pick (leb 3 (length x)) (putOf 3 (symProductOf f h (take 3 x)) y) (refused 1 y)) (refused 2 y)
+symMulOf f h x y = onFirst 3 (symProductOf f h) x y
 
 -- y' H x
 abbrev pub quadOf : Format → List Float → List Float → List Float → Float
