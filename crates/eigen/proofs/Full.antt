@@ -1,19 +1,19 @@
 -- Every list of an answer has its numbers: a rotation makes six and nine, an order moves them; and three values of a finite diagonal are finite in any order.
 use mathlib.Core.Path.{_≡_, refl, sym, ap, _∙_}
-use mathlib.Core.Bool.{Bool, true}
-use mathlib.Core.List.{List, [], _∷_}
+use mathlib.Core.Bool.{true}
+use mathlib.Core.List.{List}
 use Prim.Native.Nat.{ℕ, _<_}
 use native.Mathlib.Omega.{arith}
 use lib.Dec.{eqb}
 use lib.ListN.{length}
 use lib.Ieee.{Float, Format}
 use Rattle.float.specs.Choice.{pick}
-use Rattle.float.specs.Sign.{finite, allFinite}
+use Rattle.float.specs.Sign.{allFinite}
 use Rattle.float.proofs.Choice.{chosen}
 use Rattle.float.proofs.Finite.{at-finite}
 use Rattle.matrix.specs.Square.{exchangeOf, exchanged}
 use Rattle.matrix.proofs.Tables.{table-finite}
-use Rattle.jacobi.specs.Order.{Ranked, swapped, ordered, ordered3, ascending}
+use Rattle.jacobi.specs.Order.{Ranked, ordered, ordered3, ascending}
 use Rattle.jacobi.specs.declared.rotation.Rotation.{Rotation}
 use Rattle.jacobi.proofs.Run.{run-keeps}
 use Rattle.jacobi.proofs.Compared.{either}

@@ -6,4 +6,5 @@ pub mod Full
 pub mod Settled
 pub mod Owed
 pub mod Reversed
+pub mod Ascends
 pub mod Unique

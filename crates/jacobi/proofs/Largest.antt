@@ -17,10 +17,10 @@ use Rattle.jacobi.specs.declared.pairs.OffDiag.{OffDiag}
 -- ---- a comparison and its keys
 
 module _ (L K : ℕ) (x y : Float) (p : Within L K x) (q : Within L K y) where
-  below : lt x y ≡ true → key L K x < key L K y
+  pub below : lt x y ≡ true → key L K x < key L K y
   below e = ltb-true (key L K x) (key L K y) (sym (lt-key L K x y p q) ∙ e)
 
-  not-below : lt x y ≡ false → key L K y ≤ key L K x
+  pub not-below : lt x y ≡ false → key L K y ≤ key L K x
   not-below e = ltb-false (key L K x) (key L K y) (sym (lt-key L K x y p q) ∙ e)
 
   is-below : key L K x < key L K y → lt x y ≡ true
