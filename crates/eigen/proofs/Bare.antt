@@ -15,7 +15,7 @@ use Rattle.jacobi.specs.Order.{Ranked, ascending}
 use Rattle.jacobi.proofs.Run.{keeps}
 use Rattle.jacobi.proofs.Compared.{ordered3-mapped}
 use Rattle.eigen.specs.Eigen3x3.{State, BareState, settledOf, stepOf, bareStepOf, runOf, bareRunOf, startOf, lastOf, diagonal, nothingSwapped, rankOf, sort3Of, rankedOf, EigenAnswer, answerOf, endOf, eigenOf, ValuesAnswer, eigvals3, refusedValues, bareEndOf, eigvalsOf}
-use Rattle.eigen.specs.Bare.{withoutVectors, VectorsLost, SameButVectors}
+use Rattle.eigen.specs.Bare.{without, withoutVectors, VectorsLost, SameButVectors}
 use Rattle.eigen.specs.declared.eigen3x3.Eigen3.{Eigen3}
 use Rattle.eigen.specs.declared.eigen3x3.EigVals3.{EigVals3}
 use Rattle.eigen.proofs.eigen3x3.eigen_jacobi.Reads as eigen-jacobi
@@ -63,9 +63,6 @@ module _ (f : Format) (a : List Float) where
   same-but-vectors = by-tests _ _ _ refl refl refl
 
 -- ---- the calls: any two answers within the promises that the source states
-
-abbrev pub without : Eigen3 → EigVals3
-without r = record { code = r .code; made = r .made; settled = r .settled; values = r .values; worked = r .worked }
 
 pub same-calls : (a : Sym3) (r : Eigen3) (q : EigVals3) → eigen-jacobi.Post tt (a, tt) r (a, tt) → eigvals-jacobi.Post tt (a, tt) q (a, tt)
     → (without r ≡ q) ⊎ (VectorsLost F (a .«data») × (r .code ≡ 7) × (q .code ≡ 0))
