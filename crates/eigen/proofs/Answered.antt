@@ -1,5 +1,5 @@
 -- An answer with code 0 is the one that was worked out, of finite numbers: every other way through a judged call leaves another code.
-use mathlib.Core.Path.{_≡_, refl, sym, _∙_}
+use mathlib.Core.Path.{_≡_, refl}
 use mathlib.Core.Bool.{true}
 use mathlib.Core.List.{List}
 use Prim.Native.Nat.{ℕ}

@@ -14,8 +14,8 @@ use Rattle.matrix.specs.declared.symmetric.Sym3.{Sym3}
 use Rattle.jacobi.specs.Order.{Ranked, ascending}
 use Rattle.jacobi.proofs.Run.{keeps}
 use Rattle.jacobi.proofs.Compared.{ordered3-mapped}
-use Rattle.eigen.specs.Eigen3x3.{State, BareState, settledOf, stepOf, bareStepOf, runOf, bareRunOf, startOf, lastOf, bareLastOf, diagonal, nothingSwapped, rankOf, sort3Of, rankedOf, EigenAnswer, refusedEigen, numbersOf, answerOf, endOf, eigenOf, ValuesAnswer, eigvals3, refusedValues, bareEndOf, eigvalsOf}
-use Rattle.eigen.specs.Bare.{withoutVectors, VectorsLost, SameButVectors}
+use Rattle.eigen.specs.Eigen3x3.{State, BareState, settledOf, stepOf, bareStepOf, runOf, bareRunOf, startOf, lastOf, diagonal, nothingSwapped, rankOf, sort3Of, rankedOf, EigenAnswer, answerOf, endOf, eigenOf, ValuesAnswer, eigvals3, refusedValues, bareEndOf, eigvalsOf}
+use Rattle.eigen.specs.Bare.{without, withoutVectors, VectorsLost, SameButVectors}
 use Rattle.eigen.specs.declared.eigen3x3.Eigen3.{Eigen3}
 use Rattle.eigen.specs.declared.eigen3x3.EigVals3.{EigVals3}
 use Rattle.eigen.proofs.eigen3x3.eigen_jacobi.Reads as eigen-jacobi
@@ -36,7 +36,7 @@ same-run f k s =
 pub values-alone : (w : Ranked (List Float)) → rankOf w .values ≡ sort3Of (w .values)
 values-alone w = ap (λ (x : Ranked (Unit {0})). x .values) (ordered3-mapped 3 ascending (exchangeOf 3) nothingSwapped (λ v. tt) (λ i j v. refl) w)
 
-ranked-values : (s : State) → rankedOf s .values ≡ sort3Of (diagonal (s .matrix))
+pub ranked-values : (s : State) → rankedOf s .values ≡ sort3Of (diagonal (s .matrix))
 unfolding rankedOf
 ranked-values s = values-alone (record { values = diagonal (s .matrix); carried = s .vectors })
 
@@ -52,7 +52,9 @@ module _ (f : Format) (a : List Float) where
   unfolding eigenOf endOf judged
   by-tests false y z i m v = inl (rw (from-state, i))
   by-tests true false z i m v = let n = append-fails (lastOf f a .matrix) (rankedOf (lastOf f a) .carried) m in inl (rw (from-state, i, m, n))
-  by-tests true true true i m v = let n = append-passes (lastOf f a .matrix) (rankedOf (lastOf f a) .carried) m in inl (rw (from-state, i, m, n, v))
+  by-tests true true true i m v =
+      let n = append-passes (lastOf f a .matrix) (rankedOf (lastOf f a) .carried) m in
+      inl (rw (from-state, i, m, n, v))
   by-tests true true false i m v =
       let n = append-passes (lastOf f a .matrix) (rankedOf (lastOf f a) .carried) m in
       inr (record { input = i; matrix = m; vectors = v }, rw (i, n, v), rw (from-state, i, m))
@@ -61,9 +63,6 @@ module _ (f : Format) (a : List Float) where
   same-but-vectors = by-tests _ _ _ refl refl refl
 
 -- ---- the calls: any two answers within the promises that the source states
-
-abbrev pub without : Eigen3 → EigVals3
-without r = record { code = r .code; made = r .made; settled = r .settled; values = r .values; worked = r .worked }
 
 pub same-calls : (a : Sym3) (r : Eigen3) (q : EigVals3) → eigen-jacobi.Post tt (a, tt) r (a, tt) → eigvals-jacobi.Post tt (a, tt) q (a, tt)
     → (without r ≡ q) ⊎ (VectorsLost F (a .«data») × (r .code ≡ 7) × (q .code ≡ 0))

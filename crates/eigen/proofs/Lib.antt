@@ -2,5 +2,9 @@ pub mod Rounds
 pub mod Answered
 pub mod Counted
 pub mod Bare
+pub mod Full
+pub mod Settled
+pub mod Owed
 pub mod Reversed
+pub mod Ascends
 pub mod Unique

@@ -1,5 +1,5 @@
--- Reversed wiring only exchanges the axes. The runs from A and from -A make the same rotations, so they end in matrices that are negations of each other, place by place,
--- and in the same vectors; and the values of one are the other's, negated, hence in the opposite order.
+-- Reversed wiring only exchanges the axes. The runs from A and from -A make the same rotations, so they end in matrices that are negations of each
+-- other, place by place, and in the same vectors; and the values of one are the other's, negated, hence in the opposite order.
 pub mod Steps
 pub mod Order
 pub mod Wiring
@@ -89,7 +89,9 @@ related-ends f m (six {x11} {x12} {x22} {x13} {x23} {x33} {y11} {y12} {y22} {y13
     }
 
 alike-ends : (f : Format) (s q : State) → Alike true s q → Ends f s q
-alike-ends f s q r = subst₂ (λ (v : List Float) (m : Made). Ends f s (record { matrix = q .matrix; vectors = v; made = m })) (r .vectors) (r .made) (related-ends f (s .made) (r .matrices) (r .full))
+alike-ends f s q r =
+    subst₂ (λ (v : List Float) (m : Made). Ends f s (record { matrix = q .matrix; vectors = v; made = m })) (r .vectors) (r .made)
+    (related-ends f (s .made) (r .matrices) (r .full))
 
 -- ---- the whole call
 

@@ -197,7 +197,6 @@ fn judge_values(w: Bare) -> EigVals3
     let d = worked.data;
     if all_finite(&d) {
         let made = w.made;
-        let settled = is_settled(worked);
         let a11 = d[0];
         let a22 = d[2];
         let a33 = d[5];
@@ -205,7 +204,7 @@ fn judge_values(w: Bare) -> EigVals3
         return EigVals3 {
             code: DONE,
             made,
-            settled,
+            settled: is_settled(worked),
             values,
             worked,
         };

@@ -4,6 +4,7 @@ use mathlib.Core.Bool.{Bool, true, false}
 use Prim.Native.Nat.{ℕ}
 use lib.Ieee.{Float}
 use Rattle.float.specs.Choice.{pick}
+use Rattle.float.proofs.Choice.{chosen}
 use Rattle.matrix.specs.Places.{at}
 use Rattle.jacobi.specs.Order.{Ranked, swapped, ordered, ordered3}
 
@@ -11,6 +12,10 @@ module _ {C : Type 0} (n : ℕ) (wrong : Float → Float → Bool) (swap : ℕ �
   pub exchanges : wrong (at (w .values) i) (at (w .values) j) ≡ true → ordered n wrong swap i j w ≡ swapped n wrong swap i j w
   unfolding ordered
   exchanges h = rw h
+
+  pub either : (P : Ranked C → Type 0) → P (swapped n wrong swap i j w) → P w → P (ordered n wrong swap i j w)
+  unfolding ordered
+  either P = chosen P (wrong (at (w .values) i) (at (w .values) j)) (swapped n wrong swap i j w) w
 
   pub leaves : wrong (at (w .values) i) (at (w .values) j) ≡ false → ordered n wrong swap i j w ≡ w
   unfolding ordered

@@ -6,4 +6,5 @@ pub mod Compared
 pub mod Moves
 pub mod Placed
 pub mod Sorted
+pub mod Largest
 pub mod Unique

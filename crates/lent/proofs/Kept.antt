@@ -6,12 +6,12 @@ use lib.Ieee.{Float, Format}
 use Rattle.float.specs.Sign.{allFinite}
 use Rattle.float.proofs.Choice.{chosen, by-test}
 use Rattle.matrix.specs.Answer.{Answer}
-use Rattle.eigen.specs.Rotation.{Turn}
+use Rattle.jacobi.specs.declared.rotation.Rotation.{Rotation}
 use Rattle.eigen.specs.Pairs.{appliedOf}
-use Rattle.eigen.specs.declared.pairs.Pair.{Pair}
+use Rattle.jacobi.specs.declared.pairs.Pair.{Pair}
 use Rattle.lent.specs.InPlace.{rotatedOf}
 
-module _ (f : Format) (p : Pair) (r : Turn) (a : List Float) where
+module _ (f : Format) (p : Pair) (r : Rotation) (a : List Float) where
   -- of any property of an answer: it is enough that the rotated numbers, if finite, and the old ones with 5 and 7 have it
   each : (P : Answer (List Float) → Type 0) → (allFinite (appliedOf f p r a) ≡ true → P (record { code = 0; value = appliedOf f p r a }))
       → P (record { code = 5; value = a }) → P (record { code = 7; value = a }) → P (rotatedOf f p r a)

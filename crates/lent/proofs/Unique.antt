@@ -4,8 +4,8 @@ use Rattle.float.specs.OneAnswer.{OneAnswer, OneOutcome}
 use Rattle.float.proofs.OneAnswer.{named, both-named}
 use Rattle.matrix.specs.declared.symmetric.Sym3.{Sym3}
 use Rattle.matrix.specs.declared.symmetric.Sym3Answer.{Sym3Answer}
-use Rattle.eigen.specs.declared.pairs.Pair.{Pair}
-use Rattle.eigen.specs.declared.rotation.Rotation.{Rotation}
+use Rattle.jacobi.specs.declared.pairs.Pair.{Pair}
+use Rattle.jacobi.specs.declared.rotation.Rotation.{Rotation}
 use Rattle.lent.proofs.Promise as rotate-in-place
 use Rattle.lent.proofs.rotate.Reads as rotate
 

@@ -10,13 +10,12 @@ use Rattle.matrix.proofs.symmetric.Sym3 as S
 use Rattle.matrix.proofs.symmetric.Sym3.Laws as S′
 use Rattle.matrix.proofs.symmetric.Sym3Answer as U
 use Rattle.matrix.proofs.symmetric.Sym3Answer.Laws as U′
-use Rattle.eigen.specs.Rotation.{turn}
-use Rattle.eigen.specs.declared.pairs.Pair.{Pair}
-use Rattle.eigen.specs.declared.rotation.Rotation.{Rotation}
-use Rattle.eigen.proofs.pairs.Pair as P
-use Rattle.eigen.proofs.pairs.Pair.Laws as P′
-use Rattle.eigen.proofs.rotation.Rotation as R
-use Rattle.eigen.proofs.rotation.Rotation.Laws as R′
+use Rattle.jacobi.specs.declared.pairs.Pair.{Pair}
+use Rattle.jacobi.specs.declared.rotation.Rotation.{Rotation}
+use Rattle.jacobi.proofs.pairs.Pair as P
+use Rattle.jacobi.proofs.pairs.Pair.Laws as P′
+use Rattle.jacobi.proofs.rotation.Rotation as R
+use Rattle.jacobi.proofs.rotation.Rotation.Laws as R′
 use Rattle.lent.specs.InPlace.{rotatedOf}
 
 -- of a matrix, a pair, a rotation and an answer
@@ -34,4 +33,4 @@ uv = struct.val U.the-type U′.the-laws
 
 -- what the definition gives for a matrix
 abbrev pub answered : Sym3 → Pair → Rotation → Sym3Answer
-answered a p r = sym3Answer (rotatedOf F p (turn r) (a .«data»))
+answered a p r = sym3Answer (rotatedOf F p r (a .«data»))

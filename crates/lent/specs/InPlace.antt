@@ -8,16 +8,16 @@ use Rattle.float.specs.Sign.{allFinite}
 use Rattle.matrix.specs.Answer.{Answer, done, refused}
 use Rattle.matrix.specs.Symmetric.{sym3}
 use Rattle.matrix.specs.declared.symmetric.Sym3.{Sym3}
-use Rattle.eigen.specs.Rotation.{Turn}
+use Rattle.jacobi.specs.declared.rotation.Rotation.{Rotation}
 use Rattle.eigen.specs.Pairs.{appliedOf}
-use Rattle.eigen.specs.declared.pairs.Pair.{Pair}
+use Rattle.jacobi.specs.declared.pairs.Pair.{Pair}
 
 -- the old numbers a stay where one of the new is not finite
 abbrev pub replacedBy : List Float → List Float → Answer (List Float)
 replacedBy new a = pick (allFinite new) (done new) (refused 7 a)
 
 -- 5 where a number of the matrix, or c, s or t, is not finite
-unfoldable pub rotatedOf : Format → Pair → Turn → List Float → Answer (List Float)
+unfoldable pub rotatedOf : Format → Pair → Rotation → List Float → Answer (List Float)
 rotatedOf f p r a =
     pick (allFinite a)
     (pick (allFinite (r .c ∷ r .s ∷ r .t ∷ []))

@@ -2,11 +2,11 @@
 //
 // Standard input has items of ten words, each of eight bytes, the lowest first: the pair as 12, 13 or 23, then c, s and t, then the matrix.
 // A line answers each: the code, and the bits of the matrix as it was left. A part of an item at the end is dropped.
-use eigen::pairs::Pair;
-use eigen::rotation::Rotation;
 use float::bits::of_bits;
 use float::bits::to_bits;
 use float::width::Real;
+use jacobi::pairs::Pair;
+use jacobi::rotation::Rotation;
 use libc::STDIN_FILENO;
 use libc::STDOUT_FILENO;
 use matrix::symmetric::Sym3;

@@ -15,11 +15,12 @@ use crate::words::marked;
 use crate::words::word;
 use eigen::order;
 use eigen::pairs;
-use eigen::pairs::OffDiag;
-use eigen::pairs::Pair;
-use eigen::rotation::Rotation;
-use eigen::rotation::compute_jacobi_rotation;
 use float::bits::to_bits;
+use jacobi::pairs::OffDiag;
+use jacobi::pairs::Pair;
+use jacobi::pairs::turn_columns;
+use jacobi::rotation::Rotation;
+use jacobi::rotation::compute_jacobi_rotation;
 
 // Code, count, settled, values, vectors, worked matrix.
 fn eigen_jacobi(words: [u64; 40]) -> [u64; 64] {
@@ -27,7 +28,8 @@ fn eigen_jacobi(words: [u64; 40]) -> [u64; 64] {
     let values = r.values;
     let vectors = r.vectors;
     let worked = r.worked;
-    let out = counted(r.code, r.count, r.settled);
+    let made = r.made;
+    let out = counted(r.code, made.count, r.settled);
     put_sym3(put_mat3(put3(out, 3, values), 6, vectors), 15, worked)
 }
 
@@ -35,7 +37,8 @@ fn eigvals_jacobi(words: [u64; 40]) -> [u64; 64] {
     let r = eigen::eigen3x3::eigvals_jacobi(sym3(words, 0));
     let values = r.values;
     let worked = r.worked;
-    let out = counted(r.code, r.count, r.settled);
+    let made = r.made;
+    let out = counted(r.code, made.count, r.settled);
     put_sym3(put3(out, 3, values), 6, worked)
 }
 
@@ -120,7 +123,7 @@ pub(crate) fn eigen(op: u64, words: [u64; 40]) -> [u64; 64] {
             pairs::apply_rotation(sym3(words, 4), pair(words), rotation(words)),
         ),
         55 => of_mat3(pairs::update_eigenvectors(mat3(words, 4), pair(words), rotation(words))),
-        56 => of_mat3(pairs::turn_columns(
+        56 => of_mat3(turn_columns(
             mat3(words, 4),
             pair(words),
             number(words, 1),

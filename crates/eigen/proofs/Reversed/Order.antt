@@ -5,20 +5,22 @@ use mathlib.Core.HLevel.{⊥-prop}
 use mathlib.Core.Logic.{_⊎_, inl, inr, Or·elim}
 use mathlib.Core.Bool.{Bool, true, false, _&&_, and-assoc, and-comm, and-false}
 use mathlib.Core.List.{List, [], _∷_, _++_}
-use Prim.Native.Nat.{ℕ, _+_, _≤_, min, max}
+use Prim.Native.Nat.{ℕ, zero, suc, _+_, _≤_, _<_, min, max}
 use native.Mathlib.Nat.{le-total}
 use native.Mathlib.Omega.{arith}
 use borrow.Author.Tests.{ltb-true, ltb-false}
 use lib.Dec.{ltb}
-use lib.Ieee.{Float, lt}
+use lib.Ieee.{Float, lt, le}
 use Rattle.float.specs.Choice.{pick}
 use Rattle.float.specs.Sign.{allFinite}
 use Rattle.float.proofs.Finite.{all-finite-append}
 use Rattle.float.proofs.Negation.{Rel}
-use Rattle.float.proofs.Keys.{key, Within, lt-key, key-rel, within-rel, opposite, differ}
+use Rattle.float.proofs.Keys.{key, Within, lt-key, le-key, key-rel, within-rel, opposite, differ}
+use Rattle.matrix.specs.Places.{at}
 use Rattle.matrix.specs.Square.{exchangeOf}
 use Rattle.jacobi.specs.Order.{Ranked, ordered, ascending}
 use Rattle.eigen.specs.Eigen3x3.{rankOf}
+use Rattle.eigen.specs.Ascends.{Ascends}
 use Rattle.eigen.specs.Reversed.{AllDiffer, ValuesExchanged, ColumnsExchanged}
 
 -- ---- the sort of three axes, each a value with its column, by three exchanges of two
@@ -172,6 +174,20 @@ module _ (L K : ℕ) where
       let e = both-keys l k (a .0) r in
       let g = both-keys u (upper l k) (a .1) (b .1) in
       record { low = e .0 ∙ cc (d .0); mid = g .0 ∙ cc (d .0, d .1, e .1); high = g .1 ∙ cc (d .0, d .1, e .1) }
+
+  pub sorted-ascends : (i j k : Axis) → Fine i → Fine j → Fine k → Ascends 3 (sorted i j k .values)
+  sorted-ascends i j k p q r = go
+    where
+      fine : Fine (lowest i j k) × Fine (middle i j k) × Fine (highest i j k)
+      fine = each Fine i j k p q r
+
+      rank : Ranks i j k (keyOf i) (keyOf j) (keyOf k)
+      rank = ranks i j k p q r
+
+      go : (n : ℕ) → suc n < 3 → le (at (sorted i j k .values) n) (at (sorted i j k .values) (suc n)) ≡ true
+      go zero h = le-key L K _ _ (fine .0) (fine .1) (omega (arith, rank .low, rank .mid))
+      go (suc zero) h = le-key L K _ _ (fine .1) (fine .2) (omega (arith, rank .mid, rank .high))
+      go (suc (suc n)) h = absurd (omega arith)
 
 -- ---- mirror images: minima and maxima of numbers a and a' at one distance either side of K
 

@@ -9,7 +9,6 @@ use Rattle.float.specs.Constants.{limitF}
 use Rattle.float.specs.Sign.{allFinite}
 use Rattle.float.proofs.Negation.{Rel, same, zero-rel, add-rel, sub-rel, mul-rel, magnitude-rel, finite-rel}
 use Rattle.jacobi.specs.Run.{oneMore}
-use Rattle.jacobi.specs.declared.made.Made.{Made}
 use Rattle.jacobi.specs.declared.rotation.Rotation.{Rotation}
 use Rattle.jacobi.specs.declared.pairs.Pair.{Pair}
 use Rattle.jacobi.specs.declared.pairs.Pair.the-variants.{P12, P13, P23}

@@ -46,12 +46,12 @@ use Rattle.matrix.proofs.symmetric.Sym3 as S
 use Rattle.matrix.proofs.symmetric.Sym3.Laws as S′
 use Rattle.matrix.proofs.symmetric.Sym3Answer as U
 use Rattle.matrix.proofs.symmetric.Sym3Answer.Laws as U′
-use Rattle.eigen.specs.declared.pairs.Pair.{Pair}
-use Rattle.eigen.specs.declared.rotation.Rotation.{Rotation}
-use Rattle.eigen.proofs.pairs.Pair as P
-use Rattle.eigen.proofs.pairs.Pair.Laws as P′
-use Rattle.eigen.proofs.rotation.Rotation as R
-use Rattle.eigen.proofs.rotation.Rotation.Laws as R′
+use Rattle.jacobi.specs.declared.pairs.Pair.{Pair}
+use Rattle.jacobi.specs.declared.rotation.Rotation.{Rotation}
+use Rattle.jacobi.proofs.pairs.Pair as P
+use Rattle.jacobi.proofs.pairs.Pair.Laws as P′
+use Rattle.jacobi.proofs.rotation.Rotation as R
+use Rattle.jacobi.proofs.rotation.Rotation.Laws as R′
 use Rattle.lent.proofs.Values.{sv, pv, rv, uv, answered}
 use Rattle.lent.proofs.rotate_in_place as entry
 use Rattle.lent.proofs.rotate_in_place.Symbol as entry-def

@@ -11,7 +11,7 @@ returns : tie.Need-returns
 returns c =
     let t = c .before .before .before .before in
     let s = ofBare (t .before .before .before .before .args .w) in
-    rw (c .sort3 .ensures, c .before .is-settled .ensures)
+    rw (c .before .sort3 .ensures, c .is-settled .ensures)
     (ap eigvals3 (sym (stands (refusedValues F) 7 (s .matrix) (valuesOf F s) (t .all-finite .ensures) (c .before .before .before .if1 .taken))))
 
 returns-2 : tie.Need-returns-2
@@ -26,10 +26,10 @@ judge-values-spec =
     (tie.spec
     (λ c. search needs)
     (λ c κs. search needs)
+    (λ c. search needs)
+    (λ c. search needs)
+    (λ c. search needs)
     (λ c κs. search needs)
-    (λ c. search needs)
-    (λ c. search needs)
-    (λ c. search needs)
     (λ c κs. search needs)
     returns
     (λ c κs. search needs)

@@ -1,0 +1,73 @@
+-- What the four calls owe: each is a judged call, so its code is exactly that of its tests; and its lists are full, of numbers that the tests or their places in a
+-- tested matrix say to be finite.
+use mathlib.Core.Path.{_≡_, refl, sym, _∙_}
+use mathlib.Core.Bool.{true}
+use mathlib.Core.List.{List, _++_}
+use lib.ListN.{length}
+use lib.Ieee.{Float, Format}
+use Rattle.float.specs.Choice.{pick}
+use Rattle.float.specs.Sign.{allFinite}
+use Rattle.float.proofs.Finite.{both-true, all-finite-append}
+use Rattle.matrix.specs.Owed.{Owed}
+use Rattle.matrix.proofs.Owed.{call-code, call-owed}
+use Rattle.eigen.specs.Eigen3x3.{lastOf, bareLastOf, rankedOf, EigenAnswer, refusedEigen, numbersOf, answerOf, endOf, eigenOf, ValuesAnswer, refusedValues, valuesOf, bareEndOf, eigvalsOf}
+use Rattle.eigen.specs.Eigen2x2.{solved2, Eigen2Answer, refused2, numbers2Of, answer2Of, end2Of, eigen2Of, Values2Answer, refusedValues2, values2Of, valuesEnd2Of, eigvals2Of}
+use Rattle.eigen.specs.Owed.{eigenParts, valuesParts, eigen2Parts, values2Parts}
+use Rattle.eigen.proofs.Full.{last-filled, bare-filled, ranked-good, sort-good, solved-full}
+
+parts-finite : (xs ys : List Float) → allFinite (xs ++ ys) ≡ true → (allFinite xs ≡ true) × (allFinite ys ≡ true)
+parts-finite xs ys e = both-true (allFinite xs) (allFinite ys) (sym (all-finite-append xs ys) ∙ e)
+
+module _ (f : Format) (a : List Float) where
+  -- ---- 3x3
+
+  pub eigen3-code : eigenOf f a .code ≡ pick (allFinite a) (pick (allFinite (numbersOf (lastOf f a))) 0 7) 5
+  unfolding eigenOf endOf
+  eigen3-code = call-code (λ (r : EigenAnswer). r .code) (refusedEigen f) (λ k. refl) a (numbersOf (lastOf f a)) (answerOf f (lastOf f a))
+
+  pub eigen3-owed : length a ≡ 6 → Owed (λ (r : EigenAnswer). r .code) (refusedEigen f) eigenParts a (eigenOf f a)
+  unfolding eigenOf endOf
+  eigen3-owed n =
+      let s = lastOf f a in
+      let full = last-filled f a n in
+      call-owed (λ (r : EigenAnswer). r .code) (refusedEigen f) (λ k. refl) a (numbersOf s) (answerOf f s) eigenParts refl
+      (λ _ e.
+      let h = parts-finite (s .matrix) (rankedOf s .carried) e in
+      let g = ranked-good s full (h .0) in
+      (g .0, g .1, (g .2, h .1, (full .0, h .0, tt))))
+
+  pub eigvals3-code : eigvalsOf f a .code ≡ pick (allFinite a) (pick (allFinite (bareLastOf f a .matrix)) 0 7) 5
+  unfolding eigvalsOf bareEndOf
+  eigvals3-code = call-code (λ (r : ValuesAnswer). r .code) (refusedValues f) (λ k. refl) a (bareLastOf f a .matrix) (valuesOf f (bareLastOf f a))
+
+  pub eigvals3-owed : length a ≡ 6 → Owed (λ (r : ValuesAnswer). r .code) (refusedValues f) valuesParts a (eigvalsOf f a)
+  unfolding eigvalsOf bareEndOf
+  eigvals3-owed n =
+      let s = bareLastOf f a in
+      let full = bare-filled f a n in
+      call-owed (λ (r : ValuesAnswer). r .code) (refusedValues f) (λ k. refl) a (s .matrix) (valuesOf f s) valuesParts refl
+      (λ _ e. let g = sort-good (s .matrix) full e in (g .0, g .1, (full, e, tt)))
+
+  -- ---- 2x2
+
+  pub eigen2-code : eigen2Of f a .code ≡ pick (allFinite a) (pick (allFinite (numbers2Of (solved2 f a))) 0 7) 5
+  unfolding eigen2Of end2Of
+  eigen2-code = call-code (λ (r : Eigen2Answer). r .code) (refused2 f) (λ k. refl) a (numbers2Of (solved2 f a)) (answer2Of (solved2 f a))
+
+  pub eigen2-owed : Owed (λ (r : Eigen2Answer). r .code) (refused2 f) eigen2Parts a (eigen2Of f a)
+  unfolding eigen2Of end2Of
+  eigen2-owed =
+      let x = solved2 f a in
+      let full = solved-full f a in
+      call-owed (λ (r : Eigen2Answer). r .code) (refused2 f) (λ k. refl) a (numbers2Of x) (answer2Of x) eigen2Parts refl
+      (λ _ e. let h = parts-finite (x .values) (x .carried) e in (full .0, h .0, (full .1, h .1, tt)))
+
+  pub eigvals2-code : eigvals2Of f a .code ≡ pick (allFinite a) (pick (allFinite (solved2 f a .values)) 0 7) 5
+  unfolding eigvals2Of valuesEnd2Of
+  eigvals2-code = call-code (λ (r : Values2Answer). r .code) (refusedValues2 f) (λ k. refl) a (solved2 f a .values) (values2Of (solved2 f a .values))
+
+  pub eigvals2-owed : Owed (λ (r : Values2Answer). r .code) (refusedValues2 f) values2Parts a (eigvals2Of f a)
+  unfolding eigvals2Of valuesEnd2Of
+  eigvals2-owed =
+      call-owed (λ (r : Values2Answer). r .code) (refusedValues2 f) (λ k. refl) a (solved2 f a .values) (values2Of (solved2 f a .values)) values2Parts refl
+      (λ _ e. (solved-full f a .0, e, tt))

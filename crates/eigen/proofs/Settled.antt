@@ -1,0 +1,57 @@
+-- Settled means that all three numbers beside the diagonal are under the limit: the test reads the largest of them.
+use mathlib.Core.Path.{_≡_, refl, sym, ap, _∙_}
+use mathlib.Core.Bool.{true}
+use mathlib.Core.List.{List}
+use native.Mathlib.Omega.{arith}
+use lib.ListN.{length}
+use lib.Ieee.{Float, Format, binary32, binary64, lt, ofBits}
+use Rattle.float.specs.Width.{F}
+use Rattle.float.specs.Constants.{limitF}
+use Rattle.float.specs.Exactly.{Exactly}
+use Rattle.float.specs.Sign.{magnitudeOf, finite, allFinite}
+use Rattle.float.proofs.Finite.{both-true, at-finite, all-finite-append, magnitude-finite}
+use Rattle.matrix.specs.declared.symmetric.Sym3.{Sym3}
+use Rattle.jacobi.specs.Pairs.{sizeAt}
+use Rattle.jacobi.specs.declared.pairs.Pair.{Pair}
+use Rattle.jacobi.specs.declared.pairs.Pair.the-variants.{P12, P13, P23}
+use Rattle.jacobi.proofs.Largest.{all-under}
+use Rattle.eigen.specs.Pairs.{apq}
+use Rattle.eigen.specs.Eigen3x3.{settledOf, lastOf, rankedOf, eigenOf}
+use Rattle.eigen.specs.Counted.{AllUnder}
+use Rattle.eigen.specs.declared.eigen3x3.Eigen3.{Eigen3}
+use Rattle.eigen.proofs.Answered.{answered}
+use Rattle.eigen.proofs.Full.{last-filled}
+use Rattle.eigen.proofs.eigen3x3.eigen_jacobi.Reads as eigen-jacobi
+
+limit-finite : (f : Format) → finite (limitF f) ≡ true
+unfolding finite ofBits
+limit-finite binary32 = refl
+limit-finite binary64 = refl
+
+-- the number of a pair by its name among the three
+own-size : (a : List Float) (x : Pair) → sizeAt x (magnitudeOf (apq P12 a)) (magnitudeOf (apq P13 a)) (magnitudeOf (apq P23 a)) ≡ magnitudeOf (apq x a)
+own-size a P12 = refl
+own-size a P13 = refl
+own-size a P23 = refl
+
+pub settled-finite : (f : Format) (a : List Float) → length a ≡ 6 → allFinite a ≡ true → Exactly (settledOf f a ≡ true) (AllUnder f a)
+unfolding settledOf
+settled-finite f a n e =
+    let g = at-finite a e in
+    let u =
+    all-under _ _ _ (magnitude-finite (apq P12 a) (g 1 (omega arith))) (magnitude-finite (apq P13 a) (g 3 (omega arith)))
+    (magnitude-finite (apq P23 a) (g 4 (omega arith))) (limitF f) (limit-finite f)
+    in
+    ((λ h x. sym (ap (λ (y : Float). lt y (limitF f)) (own-size a x)) ∙ u .0 h x), (λ h. u .1 (λ x. ap (λ (y : Float). lt y (limitF f)) (own-size a x) ∙ h x)))
+
+-- of the answer, and of the call: of any answer within the promise that the source states
+pub settled-means : (f : Format) (a : List Float) → length a ≡ 6 → eigenOf f a .code ≡ 0 → Exactly (eigenOf f a .settled ≡ true) (AllUnder f (eigenOf f a .worked))
+settled-means f a n e =
+    let s = lastOf f a in
+    let g = answered f a e in
+    let m = both-true _ _ (sym (all-finite-append (s .matrix) (rankedOf s .carried)) ∙ g .numbers) .0 in
+    rw (g .answer) (settled-finite f (s .matrix) (last-filled f a n .0) m)
+
+pub settled-call : (a : Sym3) (r : Eigen3) → length (a .«data») ≡ 6 → eigen-jacobi.Post tt (a, tt) r (a, tt) → r .code ≡ 0
+    → Exactly (r .settled ≡ true) (AllUnder F (r .worked .«data»))
+settled-call a r n p e = rw p (settled-means F (a .«data») n (sym (ap (λ (r : Eigen3). r .code) p) ∙ e))
