@@ -74,7 +74,7 @@ factor-clear f s r = chosen (Clear f) (eqb (r .code) 0) _ _ (λ h. absurd (h ref
 pub work-clear : (f : Format) (kind : ℕ) (nine three : List Float) → Clear f (workOf f kind nine three)
 work-clear f kind nine three =
     each-kind (Clear f) f kind nine three
-    (λ _ n. same-refusal f _ _ 0 (ap (fromEigen2 f) (eigen2-owed f (firstOf 3 nine) refl .clear n)))
+    (λ _ n. same-refusal f _ _ 0 (ap (fromEigen2 f) (eigen2-owed f (firstOf 3 nine) .clear n)))
     (λ _ n. same-refusal f _ _ 0 (ap (fromEigen3 f) (eigen3-owed f (firstOf 6 nine) refl .clear n)))
     (λ _ n. same-refusal f _ _ 0 (ap (fromSvd2 f) (svd2-owed f (firstOf 4 nine) refl .clear n)))
     (λ _ n. same-refusal f _ _ 0 (ap (fromSvd3 f) (svd3-owed f (firstOf 9 nine) refl .clear n)))
@@ -98,7 +98,7 @@ pub work-five : (f : Format) (kind : ℕ) (nine three : List Float) → allFinit
     → NotFive (workOf f kind nine three)
 work-five f kind nine three h k =
     each-kind NotFive f kind nine three
-    (λ e. not-five (eigen2-owed f (firstOf 3 nine) refl) (rw e at h))
+    (λ e. not-five (eigen2-owed f (firstOf 3 nine)) (rw e at h))
     (λ e. not-five (eigen3-owed f (firstOf 6 nine) refl) (rw e at h))
     (λ e. not-five (svd2-owed f (firstOf 4 nine) refl) (rw e at h))
     (λ e. not-five (svd3-owed f (firstOf 9 nine) refl) (rw e at h))

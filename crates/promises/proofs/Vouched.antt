@@ -55,7 +55,7 @@ module _ (f : Format) (nine three : List Float) where
   work-vouched kind =
       let zero = refused-vouched f 0 0 in
       each-kind Vouched f kind nine three
-      (λ _. by-owed (eigen2-owed f (firstOf 3 nine) refl) (λ (r : Eigen2Answer). Vouched (fromEigen2 f r))
+      (λ _. by-owed (eigen2-owed f (firstOf 3 nine)) (λ (r : Eigen2Answer). Vouched (fromEigen2 f r))
       (λ h. (padded-finite f 3 2 _ (h .0) (h .1), padded-finite f 9 4 _ (h .2 .0) (h .2 .1), zeros-finite f 9)) zero)
       (λ _. by-owed (eigen3-owed f (firstOf 6 nine) refl) (λ (r : EigenAnswer). Vouched (fromEigen3 f r))
       (λ h. (padded-finite f 3 3 _ (h .0) (h .1), padded-finite f 9 9 _ (h .2 .0) (h .2 .1), zeros-finite f 9)) zero)
