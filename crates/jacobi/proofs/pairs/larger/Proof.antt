@@ -1,5 +1,4 @@
 -- The branch makes the definition's comparison.
-use borrow.Author.Needs.{needs}
 use Rattle.jacobi.proofs.pairs.larger.Statement.{statement}
 use Rattle.jacobi.proofs.pairs.larger.Tie as tie
 
