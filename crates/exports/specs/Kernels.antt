@@ -9,7 +9,6 @@ use Rattle.cholesky.specs.Factor.{FactorAnswer, factor2Of, factor3Of}
 use Rattle.cholesky.specs.Solve.{solve2Of, solve3Of}
 use Rattle.eigen.specs.Eigen3x3.{EigenAnswer, eigenOf}
 use Rattle.svd.specs.Svd3x3.{SvdAnswer, svdOf}
-use Rattle.svd.specs.declared.svd3x3.Svd3.{Svd3}
 use Rattle.exports.specs.Slices.{into, intoFirst, given, whenDone}
 
 -- ---- y = A x, with the numbers of the matrix in a
@@ -46,17 +45,6 @@ unfoldable pub eigen3Into : Format → List Float → List Float → Answer (Lis
 eigen3Into f a out = into 18 out (given 6 a out (whenDone (record { code = eigenOf f a .code; value = eigenNumbers (eigenOf f a) }) out))
 
 -- ---- values, U, V and the worked matrix, with code 0
-
-abbrev pub ofSvd3 : Svd3 → SvdAnswer
-ofSvd3 r = record {
-  code = r .code;
-  count = r .count;
-  settled = r .settled;
-  values = r .values;
-  u = r .u .«data»;
-  v = r .v .«data»;
-  worked = r .worked .«data»;
-}
 
 abbrev pub svdNumbers : SvdAnswer → List Float
 svdNumbers r = ((r .values ++ r .u) ++ r .v) ++ r .worked

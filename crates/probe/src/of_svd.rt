@@ -26,7 +26,8 @@ fn svd3(words: [u64; 40]) -> [u64; 64] {
     let u = r.u;
     let v = r.v;
     let worked = r.worked;
-    let out = put3(counted(r.code, r.count, r.settled), 3, values);
+    let made = r.made;
+    let out = put3(counted(r.code, made.count, r.settled), 3, values);
     put_mat3(put_mat3(put_mat3(out, 6, u), 15, v), 24, worked)
 }
 

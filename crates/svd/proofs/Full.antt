@@ -11,7 +11,7 @@ use Rattle.matrix.proofs.Tables.{length-tabulate}
 use Rattle.jacobi.specs.Order.{swapped, descending}
 use Rattle.jacobi.proofs.Run.{run-keeps}
 use Rattle.jacobi.proofs.Moves.{ordered-keeps, ordered3-keeps}
-use Rattle.svd.specs.Order.{Factors, signedColumn, signed3Of, signed2Of, exchangeBoth, orderOf, order2Of}
+use Rattle.svd.specs.Order.{Factors, signedColumn, exchangeBoth, orderOf, order2Of}
 use Rattle.svd.specs.Svd3x3.{State, settledOf, stepOf, runOf, startOf, lastOf, factorsOf}
 use Rattle.svd.specs.Svd2x2.{factors2Of}
 use Rattle.svd.specs.declared.polar.TwoSided.{TwoSided}
@@ -49,11 +49,11 @@ swapped-full n i j w h = record { values = length-tabulate n _; u = length-tabul
 pub factors-full : (s : State) → FullState s → FullFactors 3 (factorsOf s)
 unfolding factorsOf orderOf
 factors-full s h =
-    ordered3-keeps 3 descending (exchangeBoth 3) (FullFactors 3) (swapped-full 3) _
+    ordered3-keeps 3 _ (exchangeBoth 3) (FullFactors 3) (swapped-full 3) _
     (record { values = refl; u = signed-full 3 2 _ _ (signed-full 3 1 _ _ (signed-full 3 0 _ _ (h .u))); v = h .v })
 
 pub factors2-full : (r : TwoSided) → FullFactors 2 (factors2Of r)
 unfolding factors2Of order2Of
 factors2-full r =
-    ordered-keeps 2 descending (exchangeBoth 2) (FullFactors 2) (swapped-full 2) 0 1 _
+    ordered-keeps 2 _ (exchangeBoth 2) (FullFactors 2) (swapped-full 2) 0 1 _
     (record { values = refl; u = signed-full 2 1 _ _ (signed-full 2 0 _ _ refl); v = refl })

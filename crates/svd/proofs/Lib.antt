@@ -2,6 +2,7 @@ pub mod Signed
 pub mod Rounds
 pub mod Answered
 pub mod Counted
+pub mod Moved
 pub mod Full
 pub mod Ordered
 pub mod Owed

@@ -1,4 +1,4 @@
--- U, V and the values are moved by one permutation, which the comparisons choose; the values are magnitudes, so finite ones descend to zero or above.
+-- The values of an answer are magnitudes in order, and finite, so they descend to zero or above.
 use mathlib.Core.Path.{_≡_, sym, ap, _∙_}
 use mathlib.Core.Bool.{true, false}
 use mathlib.Core.List.{List, _++_}
@@ -7,46 +7,27 @@ use native.Mathlib.Omega.{arith}
 use lib.ListN.{length}
 use lib.Ieee.{Float, Format}
 use Rattle.float.specs.Width.{F}
-use Rattle.float.specs.Sign.{signBitOf, finite, allFinite}
+use Rattle.float.specs.Sign.{signBitOf, finite}
 use Rattle.float.proofs.Finite.{at-finite, parts-finite, magnitude-finite, magnitude-unsigned}
 use Rattle.float.proofs.Zeros.{zero-least}
 use Rattle.matrix.specs.Places.{at}
 use Rattle.matrix.specs.declared.square.Mat2.{Mat2}
 use Rattle.matrix.specs.declared.square.Mat3.{Mat3}
-use Rattle.jacobi.specs.Order.{descending}
 use Rattle.jacobi.specs.Moved.{Moved, Sorted, atLeast}
-use Rattle.jacobi.proofs.Moves.{Carries, columns-carried, ordered-moves, ordered3-moves, each, each-before}
+use Rattle.jacobi.proofs.Moves.{each, each-before}
 use Rattle.jacobi.proofs.Sorted.{below2, below3, downward, sorts2, sorts3}
 use Rattle.svd.specs.Pairs.{entry}
 use Rattle.svd.specs.Order.{Factors, signed3Of, signed2Of, exchangeBoth, orderOf, order2Of}
-use Rattle.svd.specs.Svd3x3.{lastOf, factorsOf, numbersOf, svdOf}
+use Rattle.svd.specs.Svd3x3.{lastOf, factorsOf, svdOf}
 use Rattle.svd.specs.Svd2x2.{turn2, sides2Of, factors2Of, svd2Of}
-use Rattle.svd.specs.Ordered.{BothFollow, Descending, InOrder, lastSigned, last2Signed}
+use Rattle.svd.specs.Ordered.{BothFollow, InOrder, lastSigned, last2Signed}
 use Rattle.svd.specs.declared.svd2x2.Svd2.{Svd2}
 use Rattle.svd.specs.declared.svd3x3.Svd3.{Svd3}
 use Rattle.svd.proofs.Answered.{answered, answered2}
+use Rattle.svd.proofs.Moved.{same-permutation, same-permutation2}
 use Rattle.svd.proofs.Full.{last-full, factors2-full}
 use Rattle.svd.proofs.svd2x2.svd.Reads as svd2x2-svd
 use Rattle.svd.proofs.svd3x3.svd.Reads as svd3x3-svd
-
--- ---- one permutation: from the magnitudes, the signed U, and V
-
-both-carried : (n : ℕ) → Carries n (exchangeBoth n) (BothFollow n)
-both-carried n =
-    let c = columns-carried n in
-    record {
-      unmoved = (λ x. (c .unmoved (x .u), c .unmoved (x .v)));
-      swaps = (λ i j p q x. (c .swaps i j p q (x .u), c .swaps i j p q (x .v)));
-      then = (λ g h x y z p q. (c .then g h (x .u) (y .u) (z .u) (p .0) (q .0), c .then g h (x .v) (y .v) (z .v) (p .1) (q .1)));
-    }
-
-pub same-permutation : (a b c : Float) (u v : List Float) → Moved 3 (BothFollow 3) (signed3Of a b c u v) (orderOf a b c u v)
-unfolding orderOf
-same-permutation a b c u v = ordered3-moves (both-carried 3) descending (omega arith) (signed3Of a b c u v)
-
-pub same-permutation2 : (a b : Float) (u v : List Float) → Moved 2 (BothFollow 2) (signed2Of a b u v) (order2Of a b u v)
-unfolding order2Of
-same-permutation2 a b u v = ordered-moves (both-carried 2) descending 0 1 (omega arith) (omega arith) (signed2Of a b u v)
 
 -- ---- magnitudes that descend do so to zero or above
 

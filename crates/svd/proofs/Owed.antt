@@ -20,7 +20,7 @@ use Rattle.svd.specs.Svd3x3.{State, lastOf, SvdAnswer, refusedSvd, facto
 use Rattle.svd.specs.Svd2x2.{sides2Of, factors2Of, Svd2Answer, refusedSvd2, numbers2Of, answer2Of, end2Of, svd2Of}
 use Rattle.svd.specs.Owed.{svd3Parts, svd2Parts}
 use Rattle.svd.proofs.Full.{FullState, last-full, factors-full, factors2-full}
-use Rattle.svd.proofs.Ordered.{same-permutation}
+use Rattle.svd.proofs.Moved.{same-permutation}
 
 -- ---- 3x3
 

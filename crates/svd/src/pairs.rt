@@ -1,18 +1,28 @@
-// The three pairs of a square 3x3: which is the largest, and what a two-sided rotation makes of the matrix.
+// The three pairs of a square 3x3: which is the largest, and what a two-sided rotation makes of the matrix. Real is f64 (float::width).
 use crate::polar::TwoSided;
 use crate::polar::compute_two_sided_rotation;
 use float::sign::magnitude;
+use float::width::Real;
 use jacobi::pairs::OffDiag;
 use jacobi::pairs::Pair;
 use jacobi::pairs::largest;
 use matrix::square::Mat3;
 ghost use mathlib.Core.Path.{_≡_};
+ghost use lib.Ieee.{add};
+ghost use Rattle.float.specs.Sign.{magnitudeOf};
 ghost use Rattle.float.specs.Width.{F};
 ghost use Rattle.matrix.specs.Square.{mat3};
 ghost use Rattle.jacobi.specs.declared.pairs.Pair.the-variants.{P12, P13, P23};
 ghost use Rattle.svd.specs.Pairs.{offDiagOf, sidesOf, appliedOf};
 
-// The largest of the three by the sum of its two magnitudes, the first on ties (dense3x3/svd.rs, lines 48 to 62).
+// The sum of a pair's two magnitudes beside the diagonal (dense3x3/svd.rs, lines 49 to 51).
+fn pair_size(apq: Real, aqp: Real) -> Real
+    ensures { λ r. ⌜ r ≡ add F (magnitudeOf apq) (magnitudeOf aqp) ⌝ }
+{
+    magnitude(apq) + magnitude(aqp)
+}
+
+// The largest of the three by the sum of its two magnitudes, the first on ties (lines 48 to 62).
 pub fn find_largest_off_diag_nonsym(a: Mat3) -> OffDiag
     ensures { λ r. ⌜ r ≡ offDiagOf F (a .«data») ⌝ }
 {
@@ -23,10 +33,11 @@ pub fn find_largest_off_diag_nonsym(a: Mat3) -> OffDiag
     let a32 = d[5];
     let a13 = d[6];
     let a23 = d[7];
-    let abs12 = magnitude(a12) + magnitude(a21);
-    let abs13 = magnitude(a13) + magnitude(a31);
-    let abs23 = magnitude(a23) + magnitude(a32);
-    largest(abs12, abs13, abs23)
+    largest(
+        pair_size(a12, a21),
+        pair_size(a13, a31),
+        pair_size(a23, a32),
+    )
 }
 
 // The two-sided rotation of a pair (lines 29 and 30).

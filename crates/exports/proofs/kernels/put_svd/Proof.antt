@@ -2,7 +2,8 @@
 use mathlib.Core.Path.{sym, _∙_}
 use borrow.Author.Needs.{needs}
 use lib.Seq.{take-all}
-use Rattle.exports.specs.Kernels.{ofSvd3, svdNumbers}
+use Rattle.svd.specs.Svd3x3.{ofSvd3}
+use Rattle.exports.specs.Kernels.{svdNumbers}
 use Rattle.exports.proofs.kernels.put_svd.Statement.{statement}
 use Rattle.exports.proofs.kernels.put_svd.Tie as tie
 

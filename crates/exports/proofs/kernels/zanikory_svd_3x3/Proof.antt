@@ -2,8 +2,9 @@
 use mathlib.Core.Path.{refl, sym, ap, _∙_}
 use borrow.Author.Needs.{needs}
 use borrow.Author.Tests.{eq-eqb, ne-eqb}
+use Rattle.svd.specs.Svd3x3.{ofSvd3}
 use Rattle.svd.specs.declared.svd3x3.Svd3.{Svd3}
-use Rattle.exports.specs.Kernels.{ofSvd3, svdNumbers, svd3Into}
+use Rattle.exports.specs.Kernels.{svdNumbers, svd3Into}
 use Rattle.exports.proofs.kernels.zanikory_svd_3x3.Statement.{statement}
 use Rattle.exports.proofs.kernels.zanikory_svd_3x3.Tie as tie
 

@@ -1,10 +1,9 @@
 -- Each return is one outcome of the test of the input.
-use mathlib.Core.Path.{sym, ap, _∙_}
 use borrow.Author.Needs.{needs}
 use Rattle.float.specs.Width.{F}
 use Rattle.float.specs.Judged.{judged}
 use Rattle.float.proofs.Judged.{stands, refuses}
-use Rattle.svd.specs.Svd2x2.{sides2Of, factors2Of, svd2, refusedSvd2, numbers2Of, answer2Of, end2Of, svd2Of}
+use Rattle.svd.specs.Svd2x2.{sides2Of, factors2Of, refusedSvd2, numbers2Of, answer2Of, end2Of, svd2Of}
 use Rattle.svd.proofs.svd2x2.svd.Statement.{statement}
 use Rattle.svd.proofs.svd2x2.svd.Tie as tie
 
