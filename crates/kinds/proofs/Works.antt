@@ -76,7 +76,7 @@ work-clear f kind nine three =
     each-kind (Clear f) f kind nine three
     (λ _ n. same-refusal f _ _ 0 (ap (fromEigen2 f) (eigen2-owed f (firstOf 3 nine) .clear n)))
     (λ _ n. same-refusal f _ _ 0 (ap (fromEigen3 f) (eigen3-owed f (firstOf 6 nine) refl .clear n)))
-    (λ _ n. same-refusal f _ _ 0 (ap (fromSvd2 f) (svd2-owed f (firstOf 4 nine) refl .clear n)))
+    (λ _ n. same-refusal f _ _ 0 (ap (fromSvd2 f) (svd2-owed f (firstOf 4 nine) .clear n)))
     (λ _ n. same-refusal f _ _ 0 (ap (fromSvd3 f) (svd3-owed f (firstOf 9 nine) refl .clear n)))
     (λ _. factor-clear f 3 _)
     (λ _. factor-clear f 6 _)
@@ -100,7 +100,7 @@ work-five f kind nine three h k =
     each-kind NotFive f kind nine three
     (λ e. not-five (eigen2-owed f (firstOf 3 nine)) (rw e at h))
     (λ e. not-five (eigen3-owed f (firstOf 6 nine) refl) (rw e at h))
-    (λ e. not-five (svd2-owed f (firstOf 4 nine) refl) (rw e at h))
+    (λ e. not-five (svd2-owed f (firstOf 4 nine)) (rw e at h))
     (λ e. not-five (svd3-owed f (firstOf 9 nine) refl) (rw e at h))
     (λ e c. not-five (factor2-owed f (zeros f 3) (firstOf 3 nine) refl) (rw e at h) (sym (factor-code f 3 _) ∙ c))
     (λ e c. not-five (factor3-owed f (zeros f 6) (firstOf 6 nine) refl) (rw e at h) (sym (factor-code f 6 _) ∙ c))

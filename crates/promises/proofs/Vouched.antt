@@ -59,7 +59,7 @@ module _ (f : Format) (nine three : List Float) where
       (λ h. (padded-finite f 3 2 _ (h .0) (h .1), padded-finite f 9 4 _ (h .2 .0) (h .2 .1), zeros-finite f 9)) zero)
       (λ _. by-owed (eigen3-owed f (firstOf 6 nine) refl) (λ (r : EigenAnswer). Vouched (fromEigen3 f r))
       (λ h. (padded-finite f 3 3 _ (h .0) (h .1), padded-finite f 9 9 _ (h .2 .0) (h .2 .1), zeros-finite f 9)) zero)
-      (λ _. by-owed (svd2-owed f (firstOf 4 nine) refl) (λ (r : Svd2Answer). Vouched (fromSvd2 f r))
+      (λ _. by-owed (svd2-owed f (firstOf 4 nine)) (λ (r : Svd2Answer). Vouched (fromSvd2 f r))
       (λ h. (padded-finite f 3 2 _ (h .0) (h .1), padded-finite f 9 4 _ (h .2 .0) (h .2 .1), padded-finite f 9 4 _ (h .2 .2 .0) (h .2 .2 .1))) zero)
       (λ _. by-owed (svd3-owed f (firstOf 9 nine) refl) (λ (r : SvdAnswer). Vouched (fromSvd3 f r))
       (λ h. (padded-finite f 3 3 _ (h .0) (h .1), padded-finite f 9 9 _ (h .2 .0) (h .2 .1), padded-finite f 9 9 _ (h .2 .2 .0) (h .2 .2 .1))) zero)
