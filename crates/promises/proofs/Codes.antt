@@ -8,6 +8,7 @@ use lib.Dec.{eqb}
 use lib.ListN.{length}
 use lib.Ieee.{Format}
 use Rattle.float.specs.Choice.{pick}
+use Rattle.float.specs.Exactly.{Exactly}
 use Rattle.kinds.specs.Slots.{knownKind}
 use Rattle.kinds.specs.Work.{refusedKind, workOf}
 use Rattle.kinds.specs.declared.work.Worked.{Worked}
@@ -15,7 +16,7 @@ use Rattle.record.specs.Layout.{requestSize, answerSize}
 use Rattle.record.specs.Request.{kindOf, reservedZero, unusedZero, formOf, usedFinite, judgedOf}
 use Rattle.record.specs.Answer.{Step, recordStepOf}
 use Rattle.record.proofs.Used.{used-numbers}
-use Rattle.promises.specs.Conditions.{nineOf, threeOf, outputLength, inputLength, unknownKind, notZero, inputNotFinite, pivotNotAbove, answerNotFinite, Exactly, Codes}
+use Rattle.promises.specs.Conditions.{nineOf, threeOf, outputLength, inputLength, unknownKind, notZero, inputNotFinite, pivotNotAbove, answerNotFinite, Codes}
 use Rattle.promises.proofs.Kernels.{kind-code}
 use Rattle.promises.proofs.Rows.{Row, firstRow, exact, none}
 

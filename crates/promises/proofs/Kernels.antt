@@ -13,7 +13,6 @@ use Rattle.float.specs.Sign.{allFinite}
 use Rattle.float.proofs.Choice.{by-eqb}
 use Rattle.float.proofs.Finite.{both-true, append-passes}
 use Rattle.matrix.specs.Answer.{zeros}
-use Rattle.cholesky.specs.Owed.{codeOf}
 use Rattle.cholesky.specs.Pivots.{oneAtMostZero}
 use Rattle.cholesky.proofs.Codes.{factor2-code, factor3-code, solved2-code, solved3-code}
 use Rattle.eigen.proofs.Owed.{eigen2-code, eigen3-code}
@@ -32,13 +31,12 @@ by-finite : (t : Bool) → pick t 0 7 ≡ seven t
 by-finite true = refl
 by-finite false = refl
 
--- of one that has no pivots, and of one that has
-unstopped : {used made : List Float} {k : ℕ} → k ≡ pick (allFinite used) (pick (allFinite made) 0 7) 5 → allFinite used ≡ true → k ≡ seven (allFinite made)
-unstopped {used} {made} e h = e ∙ (rw h (by-finite (allFinite made)))
+-- u says that the used numbers are finite, m the numbers made, and t that a pivot is at most zero: of a kernel that has no pivots, and of one that has
+unstopped : (u m : Bool) {k : ℕ} → k ≡ pick u (pick m 0 7) 5 → u ≡ true → k ≡ seven m
+unstopped u m e h = e ∙ (rw h (by-finite m))
 
-stopped : {f : Format} {used pivots made : List Float} {k : ℕ} → k ≡ codeOf f used pivots made → allFinite used ≡ true
-    → k ≡ pick (oneAtMostZero f pivots) 6 (seven (allFinite made))
-stopped {f} {used} {pivots} {made} e h = e ∙ (rw h (ap (pick (oneAtMostZero f pivots) 6) (by-finite (allFinite made))))
+stopped : (u t m : Bool) {k : ℕ} → k ≡ pick u (pick t 6 (pick m 0 7)) 5 → u ≡ true → k ≡ pick t 6 (seven m)
+stopped u t m e h = e ∙ (rw h (ap (pick t 6) (by-finite m)))
 
 -- ---- each kind
 
@@ -60,12 +58,22 @@ kind-code f kind nine three =
     each-known
     (λ (k : ℕ). allFinite (firstOf (nineUsed k) nine) ≡ true → allFinite (firstOf (threeUsed k) three) ≡ true
     → workOf f k nine three .code ≡ pick (oneAtMostZero f (pivotsOf f k nine)) 6 (seven (allFinite (numbersOf f k nine three))))
-    (λ h _. unstopped (eigen2-code f (firstOf 3 nine)) h)
-    (λ h _. unstopped (eigen3-code f (firstOf 6 nine)) h)
-    (λ h _. unstopped (svd2-code f (firstOf 4 nine)) h)
-    (λ h _. unstopped (svd3-code f (firstOf 9 nine)) h)
-    (λ h _. factor-code f 3 _ ∙ stopped (factor2-code f (zeros f 3) (firstOf 3 nine)) h)
-    (λ h _. factor-code f 6 _ ∙ stopped (factor3-code f (zeros f 6) (firstOf 6 nine)) h)
-    (λ h k. stopped (solved2-code f (firstOf 3 nine) (firstOf 2 three)) (append-passes (firstOf 3 nine) (firstOf 2 three) h ∙ k))
-    (λ h k. stopped (solved3-code f (firstOf 6 nine) (firstOf 3 three)) (append-passes (firstOf 6 nine) (firstOf 3 three) h ∙ k))
+    (λ h _. alone 1 (firstOf 3 nine) (eigen2-code f (firstOf 3 nine)) h)
+    (λ h _. alone 2 (firstOf 6 nine) (eigen3-code f (firstOf 6 nine)) h)
+    (λ h _. alone 3 (firstOf 4 nine) (svd2-code f (firstOf 4 nine)) h)
+    (λ h _. alone 4 (firstOf 9 nine) (svd3-code f (firstOf 9 nine)) h)
+    (λ h _. factor-code f 3 _ ∙ by-pivots 5 (firstOf 3 nine) (factor2-code f (zeros f 3) (firstOf 3 nine)) h)
+    (λ h _. factor-code f 6 _ ∙ by-pivots 6 (firstOf 6 nine) (factor3-code f (zeros f 6) (firstOf 6 nine)) h)
+    (λ h k. by-pivots 7 (firstOf 3 nine ++ firstOf 2 three) (solved2-code f (firstOf 3 nine) (firstOf 2 three)) (append-passes (firstOf 3 nine) (firstOf 2 three) h ∙ k))
+    (λ h k. by-pivots 8 (firstOf 6 nine ++ firstOf 3 three) (solved3-code f (firstOf 6 nine) (firstOf 3 three)) (append-passes (firstOf 6 nine) (firstOf 3 three) h ∙ k))
     kind
+  where
+    made : ℕ → Bool
+    made k = allFinite (numbersOf f k nine three)
+
+    alone : (k : ℕ) (used : List Float) {c : ℕ} → c ≡ pick (allFinite used) (pick (made k) 0 7) 5 → allFinite used ≡ true → c ≡ seven (made k)
+    alone k used = unstopped (allFinite used) (made k)
+
+    by-pivots : (k : ℕ) (used : List Float) {c : ℕ} → c ≡ pick (allFinite used) (pick (oneAtMostZero f (pivotsOf f k nine)) 6 (pick (made k) 0 7)) 5
+        → allFinite used ≡ true → c ≡ pick (oneAtMostZero f (pivotsOf f k nine)) 6 (seven (made k))
+    by-pivots k used = stopped (allFinite used) (oneAtMostZero f (pivotsOf f k nine)) (made k)

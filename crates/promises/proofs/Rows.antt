@@ -7,8 +7,9 @@ use native.Mathlib.Omega.{arith}
 use borrow.Author.Tests.{eqb-true, eqb-false}
 use lib.Dec.{eqb}
 use Rattle.float.specs.Choice.{pick}
+use Rattle.float.specs.Exactly.{Exactly}
 use Rattle.float.proofs.Finite.{both-true}
-use Rattle.promises.specs.Conditions.{Holds, Fails, Exactly}
+use Rattle.promises.specs.Conditions.{Holds, Fails}
 
 pub record Row : Type 0 where
   pub code : ℕ

@@ -17,6 +17,7 @@ use Rattle.float.specs.Sign.{allFinite}
 use Rattle.float.proofs.Finite.{finite-neg}
 use Rattle.matrix.specs.Places.{at, tabulate}
 use Rattle.matrix.proofs.Tables.{at-tabulate, tabulate-same, first-tabulate}
+use Rattle.jacobi.specs.declared.made.Made.{Made}
 use Rattle.eigen.specs.Eigen3x3.{EigenAnswer, eigenOf}
 use Rattle.eigen.specs.Reversed.{negated, AllDiffer, ValuesExchanged, ColumnsExchanged, Reversed}
 use Rattle.eigen.proofs.Reversed.{reversed}
@@ -134,7 +135,7 @@ refused-alike : (f : Format) (k : ℕ) → (k ≡ 0 → ⊥) → Alike (refusedK
 refused-alike f k n = record { codes = refl; counts = refl; marks = refl; values = (λ e. absurd (n e)); columns = (λ e _. absurd (n e)) }
 
 eigen-alike : (f : Format) (r q : EigenAnswer) → Reversed r q → Alike (fromEigen3 f r) (fromEigen3 f q)
-eigen-alike f r q h = record { codes = h .codes; counts = h .counts; marks = ap markOf (h .marks); values = h .values; columns = h .columns }
+eigen-alike f r q h = record { codes = h .codes; counts = ap (λ (m : Made). m .count) (h .made); marks = ap markOf (h .marks); values = h .values; columns = h .columns }
 
 all-finite-neg : (n : ℕ) (g : ℕ → Float) → allFinite (tabulate n (λ (i : ℕ). neg (g i))) ≡ allFinite (tabulate n g)
 unfolding allFinite
