@@ -1,4 +1,5 @@
--- Putting values in order only moves them: an exchange of two places is undone by itself, what is carried makes the same exchange, and what two moves do is again one.
+-- Putting values in order only moves them: an exchange of two places is undone by itself, what is carried makes the same exchange, and what two moves do is
+-- again one.
 use mathlib.Core.Path.{_≡_, refl, ap, _∙_, subst, subst⁻¹}
 use mathlib.Core.Bool.{Bool, true}
 use Prim.Native.Nat.{ℕ, _<_}

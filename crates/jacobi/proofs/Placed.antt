@@ -1,5 +1,5 @@
--- Where the test of the wrong order goes by a rank, an exchange of two places leaves the lower rank at the first and the higher at the second; so three exchanges
--- leave the least, the middle and the greatest of three ranks, and no value depends on what is carried.
+-- Where the test of the wrong order goes by a rank, an exchange of two places leaves the lower rank at the first and the higher at the second; so three
+-- exchanges leave the least, the middle and the greatest of three ranks. No value depends on what is carried, since the tests read values alone.
 use mathlib.Core.Path.{_≡_, refl, sym, ap, _∙_}
 use mathlib.Core.Bool.{Bool, true, false}
 use mathlib.Core.List.{List}

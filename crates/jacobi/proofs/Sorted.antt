@@ -21,8 +21,8 @@ use Rattle.jacobi.proofs.Placed.{Ranking, Placed, Placed3, places, plac
 abbrev pub Direction : (Float → Float → Bool) → (Float → Float → Bool) → Type 0
 Direction wrong right = (L K : ℕ) → Ranking (Within L K) wrong right
 
--- the test is strict
-pub upward : Direction ascending le
+-- the test is strict. Whoever needs the rank itself unfolds the direction.
+unfoldable pub upward : Direction ascending le
 upward L K = record {
   rank = key L K;
   falls = (λ x y p q e. let l = ltb-true (key L K y) (key L K x) (sym (lt-key L K y x q p) ∙ e) in omega arith);
@@ -31,7 +31,7 @@ upward L K = record {
 }
 
 -- equal values change places too
-pub upward-ties : Direction (λ (x y : Float). not (lt x y)) le
+unfoldable pub upward-ties : Direction (λ (x y : Float). not (lt x y)) le
 upward-ties L K = record {
   rank = key L K;
   falls = (λ x y p q e. ltb-false (key L K x) (key L K y) (sym (lt-key L K x y p q) ∙ not-true (lt x y) e));

@@ -3,7 +3,7 @@ pub mod Rounds
 pub mod Answered
 pub mod Counted
 pub mod Moved
-pub mod Full
+pub mod Sizes
 pub mod Ordered
 pub mod Owed
 pub mod Unique

@@ -25,7 +25,7 @@ use Rattle.svd.specs.declared.svd2x2.Svd2.{Svd2}
 use Rattle.svd.specs.declared.svd3x3.Svd3.{Svd3}
 use Rattle.svd.proofs.Answered.{answered, answered2}
 use Rattle.svd.proofs.Moved.{same-permutation, same-permutation2}
-use Rattle.svd.proofs.Full.{last-full, factors2-full}
+use Rattle.svd.proofs.Sizes.{last-full, factors2-full}
 use Rattle.svd.proofs.svd2x2.svd.Reads as svd2x2-svd
 use Rattle.svd.proofs.svd3x3.svd.Reads as svd3x3-svd
 

@@ -19,7 +19,7 @@ use Rattle.svd.specs.Order.{signed3Of}
 use Rattle.svd.specs.Svd3x3.{State, lastOf, SvdAnswer, refusedSvd, factorsOf, numbersOf, answerOf, endOf, svdOf}
 use Rattle.svd.specs.Svd2x2.{sides2Of, factors2Of, Svd2Answer, refusedSvd2, numbers2Of, answer2Of, end2Of, svd2Of}
 use Rattle.svd.specs.Owed.{svd3Parts, svd2Parts}
-use Rattle.svd.proofs.Full.{FullState, last-full, factors-full, factors2-full}
+use Rattle.svd.proofs.Sizes.{FullState, last-full, factors-full, factors2-full}
 use Rattle.svd.proofs.Moved.{same-permutation}
 
 -- ---- 3x3
@@ -55,7 +55,8 @@ module _ (f : Format) (a : List Float) where
   unfolding svdOf endOf
   svd3-owed n =
       let s = lastOf f a in
-      call-owed (λ (r : SvdAnswer). r .code) (refusedSvd f) (λ k. refl) a (numbersOf s) (answerOf f s) svd3Parts refl (λ _ e. answer-full f s (last-full f a n) e)
+      call-owed (λ (r : SvdAnswer). r .code) (refusedSvd f) (λ k. refl) a (numbersOf s) (answerOf f s) svd3Parts refl
+      (λ _ e. answer-full f s (last-full f a n) e)
 
 -- ---- 2x2
 

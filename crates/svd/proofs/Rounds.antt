@@ -22,6 +22,7 @@ module _ (f : Format) (a : List Float) {largest : OffDiag} (is : largest ≡ off
 
   pub next-state : (u v : List Float) (made : Made) {r : TwoSided} {b p q : Mat3} → r ≡ sidesOf f (largest .pair) a → b ≡ mat3 (appliedOf f (largest .pair) r a)
       → p ≡ mat3 (turnedOf f (largest .pair) (r .cl) (r .sl) u) → q ≡ mat3 (turnedOf f (largest .pair) (r .cr) (r .sr) v)
-      → _≡_ {A = State} (record { matrix = b .«data»; u = p .«data»; v = q .«data»; made = oneMore made }) (stepOf f (record { matrix = a; u = u; v = v; made = made }))
+      → _≡_ {A = State} (record { matrix = b .«data»; u = p .«data»; v = q .«data»; made = oneMore made })
+      (stepOf f (record { matrix = a; u = u; v = v; made = made }))
   unfolding stepOf
   next-state u v made sides applied left right = simp (applied, left, right, sides, is)

@@ -130,7 +130,7 @@ fn sign2_2x2(u: Mat2, x: Real) -> Mat2
     if sign_bit(x) { u.flip2() } else { u }
 }
 
-// Lines 62 to 66.
+// The same of two values (lines 62 to 66).
 fn descend_2x2(w: Factors2) -> Factors2
     ensures { λ r. ⌜ r ≡ factors2 (ordered 2 descending (exchangeBoth 2) 0 1 (ofFactors2 w)) ⌝ }
 {

@@ -16,10 +16,12 @@ use matrix::codes::DONE;
 use matrix::codes::INPUT_NOT_FINITE;
 use matrix::square::Mat3;
 ghost use mathlib.Core.Path.{_≡_};
+ghost use mathlib.Core.List.{_++_};
 ghost use lib.Ieee.{lt};
 ghost use Rattle.float.specs.Width.{F};
 ghost use Rattle.float.specs.Constants.{limitF};
 ghost use Rattle.float.specs.Judged.{judged};
+ghost use Rattle.float.specs.Sign.{allFinite};
 ghost use Rattle.svd.specs.Order.{factors3};
 ghost use Rattle.svd.specs.Svd3x3.{working, ofWorking, settledOf, lastOf, svd3, refusedSvd, factorsOf, numbersOf, answerOf, svdOf};
 
@@ -110,20 +112,29 @@ fn factors(w: Working) -> Factors3
     fix_order_and_signs_3x3(a11, a22, a33, u, v)
 }
 
-// The answer, if all its numbers are finite. The values are magnitudes of numbers of the matrix.
+// Whether all numbers worked out are finite. The values are magnitudes of numbers of the matrix.
+fn worked_finite(a: Mat3, x: Factors3) -> bool
+    ensures { λ r. ⌜ r ≡ allFinite (a .«data» ++ (x .u .«data» ++ x .v .«data»)) ⌝ }
+{
+    let u = x.u;
+    let v = x.v;
+    let d = a.data;
+    let e = u.data;
+    let f = v.data;
+    three_finite(&d, &e, &f)
+}
+
+// The answer, if all its numbers are finite.
 fn judge(w: Working) -> Svd3
     ensures { λ r. ⌜ r ≡ svd3 (judged (refusedSvd F) 7 (numbersOf (ofWorking w)) (answerOf F (ofWorking w))) ⌝ }
 {
     let x = factors(w);
-    let values = x.values;
-    let u = x.u;
-    let v = x.v;
     let a = w.a;
-    let d = a.data;
-    let e = u.data;
-    let f = v.data;
-    if three_finite(&d, &e, &f) {
+    if worked_finite(a, x) {
         let made = w.made;
+        let values = x.values;
+        let u = x.u;
+        let v = x.v;
         let settled = is_settled(a);
         return Svd3 {
             code: DONE,

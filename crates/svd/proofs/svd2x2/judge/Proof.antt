@@ -16,7 +16,8 @@ returns c =
 returns-2 : tie.Need-returns-2
 returns-2 c =
     let w = ofFactors2 (c .before .before .before .before .before .before .before .before .before .before .before .args .w) in
-    c .refused .ensures ∙ ap svd2 (sym (refuses (refusedSvd2 F) 7 (numbers2Of w) (answer2Of w) (c .before .before .three-finite .ensures) (c .before .if1 .left)))
+    c .refused .ensures
+    ∙ ap svd2 (sym (refuses (refusedSvd2 F) 7 (numbers2Of w) (answer2Of w) (c .before .before .three-finite .ensures) (c .before .if1 .left)))
 
 pub judge-spec : {M : Type 1} → statement M
 judge-spec =

@@ -11,23 +11,23 @@ use Rattle.svd.proofs.svd3x3.judge.Statement.{statement}
 use Rattle.svd.proofs.svd3x3.judge.Tie as tie
 
 -- the numbers tested are those of the state
-numbers : (c : tie.After-three-finite) → c .three-finite .result ≡ allFinite (numbersOf (ofWorking (c .before .before .before .before .before .before .before .before .before .before .before .before .args .w)))
+numbers : (c : tie.After-worked-finite) → c .worked-finite .result ≡ allFinite (numbersOf (ofWorking (c .before .before .before .args .w)))
 numbers c =
-    let first = c .before .before .before .before .before .before .before .before .before .before .before in
-    c .three-finite .ensures
+    let first = c .before .before in
+    c .worked-finite .ensures
     ∙ ap (λ (x : Factors3). allFinite (first .before .args .w .a .«data» ++ (x .u .«data» ++ x .v .«data»))) (first .factors .ensures)
 
 returns : tie.Need-returns
 returns c =
-    let test = c .before .before .before in
-    let s = ofWorking (test .before .before .before .before .before .before .before .before .before .before .before .before .args .w) in
-    rw (stands (refusedSvd F) 7 (numbersOf s) (answerOf F s) (numbers test) (c .before .before .if1 .taken))
-    (rw (c .is-settled .ensures, test .before .before .before .before .before .before .before .before .before .before .before .factors .ensures))
+    let taken = c .before .before .before .before .before in
+    let first = taken .before .before .before in
+    let s = ofWorking (first .before .args .w) in
+    rw (stands (refusedSvd F) 7 (numbersOf s) (answerOf F s) (numbers (taken .before)) (taken .if1 .taken)) (rw (c .is-settled .ensures, first .factors .ensures))
 
 returns-2 : tie.Need-returns-2
 returns-2 c =
     let test = c .before .before in
-    let s = ofWorking (test .before .before .before .before .before .before .before .before .before .before .before .before .args .w) in
+    let s = ofWorking (test .before .before .before .args .w) in
     c .refused .ensures ∙ ap svd3 (sym (refuses (refusedSvd F) 7 (numbersOf s) (answerOf F s) (numbers test) (c .before .if1 .left)))
 
 pub judge-spec : {M : Type 1} → statement M
@@ -35,9 +35,6 @@ judge-spec =
     tie.close
     (tie.spec
     (λ c κs. search needs)
-    (λ c. search needs)
-    (λ c. search needs)
-    (λ c. search needs)
     (λ c κs. search needs)
     (λ c κs. search needs)
     returns
