@@ -14,7 +14,9 @@ module _ (f : Format) {p : Pivot} {a : PivotAnswer} (h : pivotAnswer f p ≡ a) 
   goes-on {x} e = ap (λ (b : PivotAnswer). withRoot b early go) (sym (ap (pivotAnswer f) e) ∙ h)
 
   pub stops-at : {k : ℕ} → p ≡ Refused k → stopped (pivotAnswer f p) early ≡ withRoot a early go
-  stops-at {k} e = ap (λ (b : PivotAnswer). stopped b early) (ap (pivotAnswer f) e) ∙ ap (λ (b : PivotAnswer). withRoot b early go) (sym (ap (pivotAnswer f) e) ∙ h)
+  stops-at {k} e =
+      ap (λ (b : PivotAnswer). stopped b early) (ap (pivotAnswer f) e)
+      ∙ ap (λ (b : PivotAnswer). withRoot b early go) (sym (ap (pivotAnswer f) e) ∙ h)
 
 -- a pivot step is told by its number and values
 pub same-pivot : (f : Format) (p q : Pivot) → pivotAnswer f p ≡ pivotAnswer f q → p ≡ q

@@ -4,5 +4,6 @@ use mathlib.Core.List.{List}
 use Prim.Native.Nat.{ℕ}
 use lib.Ieee.{Float}
 
-pub handed : {S : Type 0} (code : S → ℕ) (numbers : S → List Float) {r s : S} {out : List Float} → out ≡ numbers r → r ≡ s → (code r ≡ code s) × (out ≡ numbers s)
+pub handed : {S : Type 0} (code : S → ℕ) (numbers : S → List Float) {r s : S} {out : List Float} → out ≡ numbers r → r ≡ s
+    → (code r ≡ code s) × (out ≡ numbers s)
 handed code numbers p e = (ap code e, p ∙ ap numbers e)

@@ -25,7 +25,8 @@ ghost use Rattle.float.specs.Width.{F};
 ghost use Rattle.matrix.specs.Answer.{Outcome};
 ghost use Rattle.eigen.specs.Eigen3x3.{ofEigen3};
 ghost use Rattle.svd.specs.Svd3x3.{ofSvd3};
-ghost use Rattle.exports.specs.Kernels.{squareMulOf, packedMulOf, factor2Into, factor3Into, solve2Into, solve3Into, eigenNumbers, eigen3Into, svdNumbers, svd3Into};
+ghost use Rattle.exports.specs.Kernels.{squareMulOf, packedMulOf, factor2Into, factor3Into, solve2Into, solve3Into, eigenNumbers, eigen3Into, svdNumbers};
+ghost use Rattle.exports.specs.Kernels.{svd3Into};
 
 #[no_mangle]
 pub extern "C" fn zanikory_mat2_mul(a: &[Real], y: &mut [Real], x: &[Real]) -> u8

@@ -29,7 +29,8 @@ unjudged refuse k r = refl
 
 -- the three ways through a call
 pub by-call : {A : Type 0} (refuse : ℕ → A) (used made : List Float) (r : A) (P : A → Type 0)
-    → (allFinite used ≡ true → allFinite made ≡ true → P r) → (allFinite used ≡ true → allFinite made ≡ false → P (refuse 7)) → (allFinite used ≡ false → P (refuse 5))
+    → (allFinite used ≡ true → allFinite made ≡ true → P r) → (allFinite used ≡ true → allFinite made ≡ false → P (refuse 7))
+    → (allFinite used ≡ false → P (refuse 5))
     → P (judgedCall refuse used made r)
 by-call refuse used made r P done seven five =
     by-judged refuse 5 used (judged refuse 7 made r) P (λ e. by-judged refuse 7 made r P (done e) (seven e)) five

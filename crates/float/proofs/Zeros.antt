@@ -1,5 +1,5 @@
--- Zero and epsilon among the finite numbers: what is equal to zero is a zero of either sign, a number without a sign is at least zero, and epsilon times a number
--- that is no less than epsilon does not vanish, since its square does not.
+-- Zero and epsilon among the finite numbers: what is equal to zero is a zero of either sign, a number without a sign is at least zero,
+-- and epsilon times a number that is no less than epsilon does not vanish, since its square does not.
 use mathlib.Core.Path.{_≡_, refl, sym, _∙_, subst}
 use mathlib.Core.Bool.{Bool, true, false, _||_, Bool·beq, true≢false, false≢true}
 use Prim.Native.Nat.{ℕ, zero, suc, _*_, _≤_, _<_}
@@ -46,11 +46,13 @@ square-positive binary32 = tt
 square-positive binary64 = tt
 
 -- a magnitude that is not below a positive number is positive, and no less than it
-not-below : (m : ℕ) (e : ℤ) (n : ℕ) (d : ℤ) → T (ltb 0 m) → lt (fin false n d) (fin false m e) ≡ false → T (positive (fin false n d)) × T (le (fin false m e) (fin false n d))
+not-below : (m : ℕ) (e : ℤ) (n : ℕ) (d : ℤ) → T (ltb 0 m) → lt (fin false n d) (fin false m e) ≡ false
+    → T (positive (fin false n d)) × T (le (fin false m e) (fin false n d))
 unfolding lt
 not-below m e n d p h =
     let l : m * up e * down d ≤ n * up d * down e = ltb-false _ _ h in
-    let q : T (ltb 0 n) = lt→ltb 0 n (first-pos n (up d) (first-pos (n * up d) (down e) (lt-of-lt-of-le (mul-pos (mul-pos (ltb→lt 0 m p) (up-pos e)) (down-pos d)) l))) in
+    let q : T (ltb 0 n) =
+    lt→ltb 0 n (first-pos n (up d) (first-pos (n * up d) (down e) (lt-of-lt-of-le (mul-pos (mul-pos (ltb→lt 0 m p) (up-pos e)) (down-pos d)) l))) in
     (q, cross→le (fin false m e) (fin false n d) p q l)
 
 not-below-epsilon : (f : Format) (n : ℕ) (d : ℤ) → lt (fin false n d) (epsilonF f) ≡ false → T (positive (fin false n d)) × T (le (epsilonF f) (fin false n d))
@@ -71,7 +73,8 @@ zero-lt-above e nan a = absurd a
 zero-lt-above e (inf true) a = absurd a
 zero-lt-above e (inf false) a = refl
 zero-lt-above e (fin true n d) a = absurd a
-zero-lt-above e (fin false n d) a = lt-ltb (0 * up e * down d) (n * up d * down e) (rw (zero-mul (up e), zero-mul (down d)) (mul-pos (mul-pos (ltb→lt 0 n a) (up-pos d)) (down-pos e)))
+zero-lt-above e (fin false n d) a =
+    lt-ltb (0 * up e * down d) (n * up d * down e) (rw (zero-mul (up e), zero-mul (down d)) (mul-pos (mul-pos (ltb→lt 0 n a) (up-pos d)) (down-pos e)))
 
 -- ---- what is equal to zero is a zero
 
@@ -80,7 +83,8 @@ product-zero zero e h = refl
 product-zero (suc m) e h = absurd (lt-irrefl 0 (subst (λ (x : ℕ). 0 < x) h (mul-pos (mul-pos (zero-lt-suc m) (up-pos e)) (lit< tt))))
 
 zero-of-level : (s : Bool) (m : ℕ) (e : ℤ) → level s (m * up e * 1) false (0 * down e) ≡ true → m ≡ 0
-zero-of-level s m e h = product-zero m e (eqb→eq _ _ (and-l (eqb (m * up e * 1) (0 * down e)) (Bool·beq s false || eqb (m * up e * 1) 0) (subst T (sym h) tt)) ∙ zero-mul (down e))
+zero-of-level s m e h =
+    product-zero m e (eqb→eq _ _ (and-l (eqb (m * up e * 1) (0 * down e)) (Bool·beq s false || eqb (m * up e * 1) 0) (subst T (sym h) tt)) ∙ zero-mul (down e))
 
 pub zero-of-eq : (f : Format) (s : Bool) (m : ℕ) (e : ℤ) → eq (fin s m e) (zeroF f) ≡ true → m ≡ 0
 unfolding eq ofBits

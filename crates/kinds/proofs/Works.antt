@@ -1,4 +1,5 @@
--- The answer of every kind: its sizes, only a code and a pivot's number where the code is not 0, and no code 5 over finite numbers. Each kernel owes this of its answer.
+-- The answer of every kind: its sizes, only a code and a pivot's number where the code is not 0, and no code 5 over finite numbers.
+-- Each kernel owes this of its answer.
 use mathlib.Core.Path.{_≡_, refl, sym, ap, _∙_, subst⁻¹}
 use mathlib.Core.Bool.{true}
 use mathlib.Core.List.{List}
@@ -94,7 +95,8 @@ pub factor-code : (f : Format) (s : ℕ) (r : FactorAnswer) → fromFactor f s r
 unfolding fromFactor
 factor-code f s r = by-eqb (λ (w : Worked). w .code ≡ r .code) (r .code) 0 _ _ (λ e. sym e) (λ _. refl)
 
-pub work-five : (f : Format) (kind : ℕ) (nine three : List Float) → allFinite (firstOf (nineUsed kind) nine) ≡ true → allFinite (firstOf (threeUsed kind) three) ≡ true
+pub work-five : (f : Format) (kind : ℕ) (nine three : List Float) → allFinite (firstOf (nineUsed kind) nine) ≡ true
+    → allFinite (firstOf (threeUsed kind) three) ≡ true
     → NotFive (workOf f kind nine three)
 work-five f kind nine three h k =
     each-kind NotFive f kind nine three

@@ -1,5 +1,5 @@
--- What each kind answers: the one place that hands numbers to a kernel and takes its values back. `Worked` is a kernel's answer as a record has it: three values, nine
--- numbers left and nine right. Definitions only.
+-- What each kind answers: the one place that hands numbers to a kernel and takes its values back.
+-- `Worked` is a kernel's answer as a record has it: three values, nine numbers left and nine right. Definitions only.
 use mathlib.Core.Bool.{Bool, true, false}
 use mathlib.Core.List.{List}
 use Prim.Native.Nat.{ℕ}

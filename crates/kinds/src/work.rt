@@ -27,7 +27,8 @@ ghost use Rattle.eigen.specs.Eigen2x2.{ofEigen2};
 ghost use Rattle.eigen.specs.Eigen3x3.{ofEigen3};
 ghost use Rattle.svd.specs.Svd2x2.{ofSvd2};
 ghost use Rattle.svd.specs.Svd3x3.{ofSvd3};
-ghost use Rattle.kinds.specs.Work.{firstOf, padded, markOf, doneMark, refusedKind, fromEigen2, fromEigen3, fromSvd2, fromSvd3, wholeFactor, fromFactor, fromSolved, workOf};
+ghost use Rattle.kinds.specs.Work.{firstOf, padded, markOf, doneMark, refusedKind, fromEigen2, fromEigen3, fromSvd2, fromSvd3, wholeFactor, fromFactor};
+ghost use Rattle.kinds.specs.Work.{fromSolved, workOf};
 
 // Three values, nine numbers left and nine right, with code, count and mark.
 pub struct Worked {

@@ -70,7 +70,8 @@ module _ (n r c : ℕ) where
   unfolding inside
   refused-too k x z = go (ltb r n) (ltb c n)
     where
-      go : (t u : Bool) → refused 8 0 ≡ pick t (pick u (done k) (refused 8 0)) (refused 8 0) → refused 8 z ≡ pick t (pick u (done x) (refused 8 z)) (refused 8 z)
+      go : (t u : Bool) → refused 8 0 ≡ pick t (pick u (done k) (refused 8 0)) (refused 8 0)
+          → refused 8 z ≡ pick t (pick u (done x) (refused 8 z)) (refused 8 z)
       go true true h = absurd (never (sym h))
       go true false h = refl
       go false u h = refl

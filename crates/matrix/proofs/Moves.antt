@@ -37,7 +37,8 @@ column-of n r c h = omega (arith, add-mul-div-right r c {z = n} (omega arith), d
 
 pub square-same : (n : ℕ) (g h : ℕ → ℕ → Float) → ((r c : ℕ) → r < n → c < n → g r c ≡ h r c) → squareOf n g ≡ squareOf n h
 square-same n g h same =
-    tabulate-same (n * n) (λ (i : ℕ). g (i % n) (i / n)) (λ (i : ℕ). h (i % n) (i / n)) (λ i l. same (i % n) (i / n) (mod-lt i (size-above n i l)) (column-below n i l))
+    tabulate-same (n * n) (λ (i : ℕ). g (i % n) (i / n)) (λ (i : ℕ). h (i % n) (i / n))
+    (λ i l. same (i % n) (i / n) (mod-lt i (size-above n i l)) (column-below n i l))
 
 pub square-eta : (n : ℕ) (xs : List Float) → length xs ≡ n * n → squareOf n (entryOf n xs) ≡ xs
 square-eta n xs e =

@@ -19,7 +19,8 @@ module _ {A : Type 0} (code : A → ℕ) (refuse : ℕ → A) (own : (k : ℕ) �
       by-call refuse used made r (λ (q : A). code q ≡ pick (allFinite used) (pick (allFinite made) (code r) 7) 5)
       (λ e h. rw (e, h)) (λ e h. rw (e, h) (own 7)) (λ e. rw e (own 5))
 
-  pub call-owed : (parts : A → List Part) → code r ≡ 0 → (allFinite used ≡ true → allFinite made ≡ true → AllFull (parts r)) → Owed code refuse parts used (judgedCall refuse used made r)
+  pub call-owed : (parts : A → List Part) → code r ≡ 0 → (allFinite used ≡ true → allFinite made ≡ true → AllFull (parts r))
+      → Owed code refuse parts used (judgedCall refuse used made r)
   call-owed parts zero full =
       let five = own 5 in
       let seven = own 7 in

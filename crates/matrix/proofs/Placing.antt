@@ -26,11 +26,13 @@ triangular-next n = omega (arith, suc-mul n (suc n + 1), mul-add n n 2, mul-add 
 columns-within : (n c : ℕ) → c < n → triangular c + c < triangular n
 columns-within zero c h = absurd (omega arith)
 columns-within (suc n) c h =
-    ⊎-elim (λ e. omega (arith, ap triangular e, triangular-next n)) (λ l. omega (arith, columns-within n c l, triangular-next n)) (eq-or-lt-of-le {n = c} {m = n} (omega arith))
+    ⊎-elim (λ e. omega (arith, ap triangular e, triangular-next n)) (λ l. omega (arith, columns-within n c l, triangular-next n))
+    (eq-or-lt-of-le {n = c} {m = n} (omega arith))
 
 pub packed-below : {n r c : ℕ} → r < n → c < n → packedIndex r c < triangular n
 packed-below {n} {r} {c} h k =
-    by-ltb (λ (i : ℕ). i < triangular n) r c (r + triangular c) (c + triangular r) (λ l. omega (arith, columns-within n c k)) (λ l. omega (arith, columns-within n r h))
+    by-ltb (λ (i : ℕ). i < triangular n) r c (r + triangular c) (c + triangular r) (λ l. omega (arith, columns-within n c k))
+    (λ l. omega (arith, columns-within n r h))
 
 -- of a size up to 3, what is halved
 pub small : {n c : ℕ} → n ≤ 3 → c < n → c * (c + 1) ≤ 6

@@ -52,7 +52,8 @@ module _ (f : Format) where
 
   scalar-back : Answer Float → Scalar
   scalar-back a =
-      pick (eqb (a .code) 0) (scalar-is.Number (a .value)) (pick (eqb (a .code) 1) scalar-is.InputLength (pick (eqb (a .code) 5) scalar-is.InputNotFinite scalar-is.AnswerNotFinite))
+      pick (eqb (a .code) 0) (scalar-is.Number (a .value))
+      (pick (eqb (a .code) 1) scalar-is.InputLength (pick (eqb (a .code) 5) scalar-is.InputNotFinite scalar-is.AnswerNotFinite))
 
   scalar-is-back : (x : Scalar) → scalar-back (scalar f x) ≡ x
   unfolding scalar-back

@@ -113,13 +113,15 @@ one-mat2-dim m = named _
 pub one-mat2-size : (m : Mat2) → OneAnswer (λ (r : Size). mat2-size.Post tt (m, tt) r (m, tt))
 one-mat2-size m = named _
 
-pub one-mat2-index-linear : (m : Mat2) (row column : ℕ) → OneAnswer (λ (r : Place). mat2-index-linear.Post tt (m, (row, (column, tt))) r (m, (row, (column, tt))))
+pub one-mat2-index-linear : (m : Mat2) (row column : ℕ)
+    → OneAnswer (λ (r : Place). mat2-index-linear.Post tt (m, (row, (column, tt))) r (m, (row, (column, tt))))
 one-mat2-index-linear m row column = named-place _
 
 pub one-mat2-index : (m : Mat2) (row column : ℕ) → OneAnswer (λ (r : Entry). mat2-index.Post tt (m, (row, (column, tt))) r (m, (row, (column, tt))))
 one-mat2-index m row column = named-entry F _
 
-pub one-mat2-index-mut : (m : Mat2) (row column : ℕ) (x : Float) → OneAnswer (λ (r : Mat2Answer). mat2-index-mut.Post tt (m, (row, (column, (x, tt)))) r (m, (row, (column, (x, tt)))))
+pub one-mat2-index-mut : (m : Mat2) (row column : ℕ) (x : Float)
+    → OneAnswer (λ (r : Mat2Answer). mat2-index-mut.Post tt (m, (row, (column, (x, tt)))) r (m, (row, (column, (x, tt)))))
 one-mat2-index-mut m row column x = named _
 
 pub one-mat2-set-identity : (m : Mat2) → OneAnswer (λ (r : Mat2). mat2-set-identity.Post tt (m, tt) r (m, tt))
@@ -155,13 +157,15 @@ one-mat3-dim m = named _
 pub one-mat3-size : (m : Mat3) → OneAnswer (λ (r : Size). mat3-size.Post tt (m, tt) r (m, tt))
 one-mat3-size m = named _
 
-pub one-mat3-index-linear : (m : Mat3) (row column : ℕ) → OneAnswer (λ (r : Place). mat3-index-linear.Post tt (m, (row, (column, tt))) r (m, (row, (column, tt))))
+pub one-mat3-index-linear : (m : Mat3) (row column : ℕ)
+    → OneAnswer (λ (r : Place). mat3-index-linear.Post tt (m, (row, (column, tt))) r (m, (row, (column, tt))))
 one-mat3-index-linear m row column = named-place _
 
 pub one-mat3-index : (m : Mat3) (row column : ℕ) → OneAnswer (λ (r : Entry). mat3-index.Post tt (m, (row, (column, tt))) r (m, (row, (column, tt))))
 one-mat3-index m row column = named-entry F _
 
-pub one-mat3-index-mut : (m : Mat3) (row column : ℕ) (x : Float) → OneAnswer (λ (r : Mat3Answer). mat3-index-mut.Post tt (m, (row, (column, (x, tt)))) r (m, (row, (column, (x, tt)))))
+pub one-mat3-index-mut : (m : Mat3) (row column : ℕ) (x : Float)
+    → OneAnswer (λ (r : Mat3Answer). mat3-index-mut.Post tt (m, (row, (column, (x, tt)))) r (m, (row, (column, (x, tt)))))
 one-mat3-index-mut m row column x = named _
 
 pub one-mat3-set-identity : (m : Mat3) → OneAnswer (λ (r : Mat3). mat3-set-identity.Post tt (m, tt) r (m, tt))
@@ -208,13 +212,15 @@ one-sym2-dim m = named _
 pub one-sym2-size : (m : Sym2) → OneAnswer (λ (r : Size). sym2-size.Post tt (m, tt) r (m, tt))
 one-sym2-size m = named _
 
-pub one-sym2-index-linear : (m : Sym2) (row column : ℕ) → OneAnswer (λ (r : Place). sym2-index-linear.Post tt (m, (row, (column, tt))) r (m, (row, (column, tt))))
+pub one-sym2-index-linear : (m : Sym2) (row column : ℕ)
+    → OneAnswer (λ (r : Place). sym2-index-linear.Post tt (m, (row, (column, tt))) r (m, (row, (column, tt))))
 one-sym2-index-linear m row column = named-place _
 
 pub one-sym2-index : (m : Sym2) (row column : ℕ) → OneAnswer (λ (r : Entry). sym2-index.Post tt (m, (row, (column, tt))) r (m, (row, (column, tt))))
 one-sym2-index m row column = named-entry F _
 
-pub one-sym2-index-mut : (m : Sym2) (row column : ℕ) (x : Float) → OneAnswer (λ (r : Sym2Answer). sym2-index-mut.Post tt (m, (row, (column, (x, tt)))) r (m, (row, (column, (x, tt)))))
+pub one-sym2-index-mut : (m : Sym2) (row column : ℕ) (x : Float)
+    → OneAnswer (λ (r : Sym2Answer). sym2-index-mut.Post tt (m, (row, (column, (x, tt)))) r (m, (row, (column, (x, tt)))))
 one-sym2-index-mut m row column x = named _
 
 pub one-sym2-copy-from : (m src : Sym2) → OneAnswer (λ (r : Sym2). sym2-copy-from.Post tt (m, (src, tt)) r (m, (src, tt)))
@@ -232,13 +238,15 @@ one-sym3-dim m = named _
 pub one-sym3-size : (m : Sym3) → OneAnswer (λ (r : Size). sym3-size.Post tt (m, tt) r (m, tt))
 one-sym3-size m = named _
 
-pub one-sym3-index-linear : (m : Sym3) (row column : ℕ) → OneAnswer (λ (r : Place). sym3-index-linear.Post tt (m, (row, (column, tt))) r (m, (row, (column, tt))))
+pub one-sym3-index-linear : (m : Sym3) (row column : ℕ)
+    → OneAnswer (λ (r : Place). sym3-index-linear.Post tt (m, (row, (column, tt))) r (m, (row, (column, tt))))
 one-sym3-index-linear m row column = named-place _
 
 pub one-sym3-index : (m : Sym3) (row column : ℕ) → OneAnswer (λ (r : Entry). sym3-index.Post tt (m, (row, (column, tt))) r (m, (row, (column, tt))))
 one-sym3-index m row column = named-entry F _
 
-pub one-sym3-index-mut : (m : Sym3) (row column : ℕ) (x : Float) → OneAnswer (λ (r : Sym3Answer). sym3-index-mut.Post tt (m, (row, (column, (x, tt)))) r (m, (row, (column, (x, tt)))))
+pub one-sym3-index-mut : (m : Sym3) (row column : ℕ) (x : Float)
+    → OneAnswer (λ (r : Sym3Answer). sym3-index-mut.Post tt (m, (row, (column, (x, tt)))) r (m, (row, (column, (x, tt)))))
 one-sym3-index-mut m row column x = named _
 
 pub one-sym3-copy-from : (m src : Sym3) → OneAnswer (λ (r : Sym3). sym3-copy-from.Post tt (m, (src, tt)) r (m, (src, tt)))

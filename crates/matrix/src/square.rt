@@ -21,7 +21,8 @@ ghost use Prim.Native.Nat.{_≤_, _<_};
 ghost use Rattle.float.specs.Width.{F};
 ghost use Rattle.matrix.specs.Answer.{Outcome, place, entry, zeros, numbers2, numbers3};
 ghost use Rattle.matrix.specs.Places.{squareIndex, indexOf, readOf, writeOf};
-ghost use Rattle.matrix.specs.Square.{mat2, mat3, mat2Answer, mat3Answer, identityOf, transposeOf, exchangeOf, negateOf, swapColumnsOf, flipColumnOf, timesOf, productOf, mulOf};
+ghost use Rattle.matrix.specs.Square.{mat2, mat3, mat2Answer, mat3Answer, identityOf, transposeOf, exchangeOf, negateOf, swapColumnsOf, flipColumnOf};
+ghost use Rattle.matrix.specs.Square.{timesOf, productOf, mulOf};
 
 pub struct Mat2 {
     pub data: [Real; 4],

@@ -16,7 +16,8 @@ use Rattle.record.specs.Layout.{requestSize, answerSize}
 use Rattle.record.specs.Request.{kindOf, reservedZero, unusedZero, formOf, usedFinite, judgedOf}
 use Rattle.record.specs.Answer.{Step, recordStepOf}
 use Rattle.record.proofs.Used.{used-numbers}
-use Rattle.promises.specs.Conditions.{nineOf, threeOf, outputLength, inputLength, unknownKind, notZero, inputNotFinite, pivotNotAbove, answerNotFinite, Codes}
+use Rattle.promises.specs.Conditions.{nineOf, threeOf, outputLength, inputLength, unknownKind, notZero, inputNotFinite, pivotNotAbove, answerNotFinite}
+use Rattle.promises.specs.Conditions.{Codes}
 use Rattle.promises.proofs.Kernels.{kind-code}
 use Rattle.promises.proofs.Rows.{Row, firstRow, exact, none}
 
@@ -41,7 +42,8 @@ module _ (f : Format) (s a : List ℕ) where
   judged-rows : judgedOf f s .code ≡ pick (unknownKind f s a) 3 (pick (notZero f s a) 4 (pick (inputNotFinite f s a) 5 lastRows))
   unfolding judgedOf formOf
   judged-rows =
-      asked f (workOf f (kindOf s) (nineOf f s a) (threeOf f s a)) lastRows (knownKind (kindOf s)) (reservedZero s && unusedZero f (kindOf s) s) (usedFinite f (kindOf s) s) work-rows
+      asked f (workOf f (kindOf s) (nineOf f s a) (threeOf f s a)) lastRows (knownKind (kindOf s)) (reservedZero s && unusedZero f (kindOf s) s)
+      (usedFinite f (kindOf s) s) work-rows
 
   -- ---- both sizes
 

@@ -1,5 +1,5 @@
--- A kind's code over finite numbers: 6 where a pivot is not above zero, else 7 where a number of the answer is not finite, else 0. It is the kernel's own exact code,
--- of which 5 is left out.
+-- A kind's code over finite numbers: 6 where a pivot is not above zero, else 7 where a number of the answer is not finite, else 0.
+-- It is the kernel's own exact code, of which 5 is left out.
 use mathlib.Core.Path.{_≡_, refl, sym, ap, _∙_, subst}
 use mathlib.Core.Bool.{Bool, true, false, not}
 use mathlib.Core.List.{List, _++_}
@@ -46,12 +46,14 @@ known-between kind h = let b = both-true (leb 1 kind) (leb kind 8) h in (leb-tru
 pub each-known : (P : ℕ → Type 0) → P 1 → P 2 → P 3 → P 4 → P 5 → P 6 → P 7 → P 8 → (kind : ℕ) → knownKind kind ≡ true → P kind
 each-known P p1 p2 p3 p4 p5 p6 p7 p8 kind h =
     let b = known-between kind h in
-    next 1 p1 (b .0) (λ l. next 2 p2 l (λ l. next 3 p3 l (λ l. next 4 p4 l (λ l. next 5 p5 l (λ l. next 6 p6 l (λ l. next 7 p7 l (λ l. next 8 p8 l (λ l. absurd (omega arith)))))))))
+    next 1 p1 (b .0) (λ l. next 2 p2 l (λ l. next 3 p3 l (λ l. next 4 p4 l
+    (λ l. next 5 p5 l (λ l. next 6 p6 l (λ l. next 7 p7 l (λ l. next 8 p8 l (λ l. absurd (omega arith)))))))))
   where
     next : (k : ℕ) → P k → k ≤ kind → (suc k ≤ kind → P kind) → P kind
     next k p l other = by-eqb {A = ℕ} (λ _. P kind) kind k 0 0 (λ e. subst P (sym e) p) (λ n. other (omega arith))
 
-pub kind-code : (f : Format) (kind : ℕ) (nine three : List Float) → knownKind kind ≡ true → allFinite (firstOf (nineUsed kind) nine) ≡ true → allFinite (firstOf (threeUsed kind) three) ≡ true
+pub kind-code : (f : Format) (kind : ℕ) (nine three : List Float) → knownKind kind ≡ true → allFinite (firstOf (nineUsed kind) nine) ≡ true
+    → allFinite (firstOf (threeUsed kind) three) ≡ true
     → workOf f kind nine three .code ≡ pick (oneAtMostZero f (pivotsOf f kind nine)) 6 (seven (allFinite (numbersOf f kind nine three)))
 unfolding workOf oneAtMostZero
 kind-code f kind nine three =
@@ -64,8 +66,10 @@ kind-code f kind nine three =
     (λ h _. alone 4 (firstOf 9 nine) (svd3-code f (firstOf 9 nine)) h)
     (λ h _. factor-code f 3 _ ∙ by-pivots 5 (firstOf 3 nine) (factor2-code f (zeros f 3) (firstOf 3 nine)) h)
     (λ h _. factor-code f 6 _ ∙ by-pivots 6 (firstOf 6 nine) (factor3-code f (zeros f 6) (firstOf 6 nine)) h)
-    (λ h k. by-pivots 7 (firstOf 3 nine ++ firstOf 2 three) (solved2-code f (firstOf 3 nine) (firstOf 2 three)) (append-passes (firstOf 3 nine) (firstOf 2 three) h ∙ k))
-    (λ h k. by-pivots 8 (firstOf 6 nine ++ firstOf 3 three) (solved3-code f (firstOf 6 nine) (firstOf 3 three)) (append-passes (firstOf 6 nine) (firstOf 3 three) h ∙ k))
+    (λ h k. by-pivots 7 (firstOf 3 nine ++ firstOf 2 three) (solved2-code f (firstOf 3 nine) (firstOf 2 three))
+    (append-passes (firstOf 3 nine) (firstOf 2 three) h ∙ k))
+    (λ h k. by-pivots 8 (firstOf 6 nine ++ firstOf 3 three) (solved3-code f (firstOf 6 nine) (firstOf 3 three))
+    (append-passes (firstOf 6 nine) (firstOf 3 three) h ∙ k))
     kind
   where
     made : ℕ → Bool

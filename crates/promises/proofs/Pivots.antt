@@ -36,7 +36,8 @@ not-six : (t : Bool) → seven t ≡ 6 → ⊥
 not-six true e = omega arith
 not-six false e = omega arith
 
-work-hands : (f : Format) (nine three : List Float) (kind : ℕ) → knownKind kind ≡ true → allFinite (firstOf (nineUsed kind) nine) ≡ true → allFinite (firstOf (threeUsed kind) three) ≡ true
+work-hands : (f : Format) (nine three : List Float) (kind : ℕ) → knownKind kind ≡ true → allFinite (firstOf (nineUsed kind) nine) ≡ true
+    → allFinite (firstOf (threeUsed kind) three) ≡ true
     → workOf f kind nine three .code ≡ 6 → workOf f kind nine three .count ≡ refusedPivot f 1 (pivotsOf f kind nine)
 unfolding workOf oneAtMostZero
 work-hands f nine three =

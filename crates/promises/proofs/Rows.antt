@@ -61,10 +61,12 @@ pub exact : (k : ℕ) (rs : List Row) → 0 < k → different rs ≡ true → Ex
 exact k [] pos h = ((λ e. absurd (omega arith)), (λ x. absurd x))
 exact k (r ∷ rs) pos h = by (exact k rs pos (both-true (absentIn (r .code) rs) (different rs) h .1)) (eqb (r .code) k) refl (r .holds)
   where
-    by : Exactly (firstRow rs ≡ k) (At k rs) → (t : Bool) → eqb (r .code) k ≡ t → (b : Bool) → Exactly (pick b (r .code) (firstRow rs) ≡ k) (AtRow t b (At k rs))
+    by : Exactly (firstRow rs ≡ k) (At k rs) → (t : Bool) → eqb (r .code) k ≡ t → (b : Bool)
+        → Exactly (pick b (r .code) (firstRow rs) ≡ k) (AtRow t b (At k rs))
     by rest true e true = ((λ _. refl), (λ _. eqb-true (r .code) k e))
     by rest true e false =
-        let gone : absentIn k rs ≡ true = ap (λ (m : ℕ). absentIn m rs) (sym (eqb-true (r .code) k e)) ∙ both-true (absentIn (r .code) rs) (different rs) h .0 in
+        let gone : absentIn k rs ≡ true =
+        ap (λ (m : ℕ). absentIn m rs) (sym (eqb-true (r .code) k e)) ∙ both-true (absentIn (r .code) rs) (different rs) h .0 in
         ((λ q. absurd (not-first k rs pos gone q)), (λ q. absurd (false≢true q)))
     by rest false e true = ((λ q. absurd (eqb-false (r .code) k e q)), (λ q. absurd (true≢false (q .0))))
     by rest false e false = ((λ q. (refl, rest .0 q)), (λ q. rest .1 (q .1)))

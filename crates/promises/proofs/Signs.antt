@@ -71,11 +71,15 @@ module _ (f : Format) (p n : ℕ) (t : p * 128 ≡ top f) (h : n < p) where
       let c : ℕ = b - 128 in
       let e : flippedByte b ≡ c = omega arith in
       let q : c + 128 ≡ b = omega arith in
-      ap (λ (d : ℕ). ofBits f (n + p * d)) e ∙ sym (neg-twice (ofBits f (n + p * c))) ∙ ap neg (sym (set-bit c (omega arith))) ∙ ap (λ (d : ℕ). neg (ofBits f (n + p * d))) q)
+      ap (λ (d : ℕ). ofBits f (n + p * d)) e
+      ∙ sym (neg-twice (ofBits f (n + p * c)))
+      ∙ ap neg (sym (set-bit c (omega arith)))
+      ∙ ap (λ (d : ℕ). neg (ofBits f (n + p * d))) q)
 
 -- ---- a number in its bytes
 
-pub number-flipped : (f : Format) (l : List ℕ) (b : ℕ) → length l + 1 ≡ numberBytes f → wordOf l < 256 ^ length l → b < 256 → ofBits f (wordOf (l ++ (flippedByte b ∷ []))) ≡ neg (ofBits f (wordOf (l ++ (b ∷ []))))
+pub number-flipped : (f : Format) (l : List ℕ) (b : ℕ) → length l + 1 ≡ numberBytes f → wordOf l < 256 ^ length l → b < 256
+    → ofBits f (wordOf (l ++ (flippedByte b ∷ []))) ≡ neg (ofBits f (wordOf (l ++ (b ∷ []))))
 number-flipped f l b e h k =
     ap (ofBits f) (last-byte l (flippedByte b)) ∙ flipped-byte f (256 ^ length l) (wordOf l) (top-byte f (length l) e) h b k
     ∙ ap (λ (m : ℕ). neg (ofBits f m)) (sym (last-byte l b))

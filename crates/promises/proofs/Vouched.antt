@@ -43,10 +43,12 @@ refused-vouched : (f : Format) (code pivot : ℕ) → Vouched (refusedKind f cod
 refused-vouched f code pivot = (zeros-finite f 3, zeros-finite f 9, zeros-finite f 9)
 
 -- a record of a factor of s numbers
-factor-vouched : (f : Format) (s : ℕ) (r : FactorAnswer) → (r .code ≡ 0 → (length (r .factor) ≡ s) × (allFinite (r .factor) ≡ true)) → Vouched (fromFactor f s r)
+factor-vouched : (f : Format) (s : ℕ) (r : FactorAnswer) → (r .code ≡ 0 → (length (r .factor) ≡ s) × (allFinite (r .factor) ≡ true))
+    → Vouched (fromFactor f s r)
 unfolding fromFactor
 factor-vouched f s r h =
-    by-eqb Vouched (r .code) 0 _ _ (λ e. (zeros-finite f 3, padded-finite f 9 s (r .factor) (h e .0) (h e .1), zeros-finite f 9)) (λ _. refused-vouched f (r .code) (r .pivot))
+    by-eqb Vouched (r .code) 0 _ _ (λ e. (zeros-finite f 3, padded-finite f 9 s (r .factor) (h e .0) (h e .1), zeros-finite f 9))
+    (λ _. refused-vouched f (r .code) (r .pivot))
 
 -- ---- each kind
 
@@ -79,6 +81,7 @@ vouched f request =
     let kind = kindOf request in
     let nine = numbersFrom f 9 nineAt request in
     let three = numbersFrom f 3 (threeAt f) request in
-    chosen Vouched (eqb (formOf f request) 0) (pick (usedFinite f kind request) (workOf f kind nine three) (refusedKind f 5 0)) (refusedKind f (formOf f request) 0)
+    chosen Vouched (eqb (formOf f request) 0) (pick (usedFinite f kind request) (workOf f kind nine three) (refusedKind f 5 0))
+    (refusedKind f (formOf f request) 0)
     (chosen Vouched (usedFinite f kind request) (workOf f kind nine three) (refusedKind f 5 0) (work-vouched f nine three kind) (refused-vouched f 5 0))
     (refused-vouched f (formOf f request) 0)

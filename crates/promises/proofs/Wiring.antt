@@ -1,4 +1,5 @@
--- Reversed wiring at the record: the flipped request says the same of its form, its six numbers are the negated ones, and of the kernel's answers the theorem `reversed` tells.
+-- Reversed wiring at the record: the flipped request says the same of its form, its six numbers are the negated ones,
+-- and of the kernel's answers the theorem `reversed` tells.
 use mathlib.Core.Path.{_≡_, refl, sym, ap, _∙_, subst}
 use mathlib.Core.Bool.{Bool, true, false, _&&_}
 use mathlib.Core.List.{List, [], _∷_, _++_}
@@ -67,7 +68,8 @@ module _ (f : Format) where
       let l = take (width - 1) x in
       let k : length l ≡ width - 1 = length-take-le (width - 1) x (omega arith) in
       let whole : l ++ (getD x (width - 1) 0 ∷ []) ≡ x = sym (take-suc x (width - 1) 0 (omega arith)) ∙ take-all (suc (width - 1)) x (omega arith) in
-      number-flipped f l (getD x (width - 1) 0) (omega arith) (word-below l (bytes-take (width - 1) x h)) (h (width - 1)) ∙ ap (λ (y : List ℕ). neg (ofBits f (wordOf y))) whole
+      number-flipped f l (getD x (width - 1) 0) (omega arith) (word-below l (bytes-take (width - 1) x h)) (h (width - 1))
+      ∙ ap (λ (y : List ℕ). neg (ofBits f (wordOf y))) whole
 
   -- ---- n numbers
 
@@ -100,7 +102,8 @@ module _ (f : Format) where
       let x = take width s in
       let e = first-length n s h in
       let seam : take width (flippedNumber f x ++ flippedNumbers f n (drop width s)) ≡ flippedNumber f x =
-      ap (λ (k : ℕ). take k (flippedNumber f x ++ flippedNumbers f n (drop width s))) (sym (flipped-length x e)) ∙ take-append-seam (flippedNumber f x) (flippedNumbers f n (drop width s)) in
+      ap (λ (k : ℕ). take k (flippedNumber f x ++ flippedNumbers f n (drop width s))) (sym (flipped-length x e))
+      ∙ take-append-seam (flippedNumber f x) (flippedNumbers f n (drop width s)) in
       rw (mul-zero width) (ap (λ (y : List ℕ). ofBits f (wordOf y)) seam ∙ one-flipped x e (bytes-take width s b))
   numbers-flipped (suc n) s h b (suc i) l =
       ap (λ (y : List ℕ). ofBits f (wordOf (take width y))) (behind-first n s (flippedNumbers f n (drop width s)) h i)
@@ -135,7 +138,8 @@ refused-alike : (f : Format) (k : ℕ) → (k ≡ 0 → ⊥) → Alike (refusedK
 refused-alike f k n = record { codes = refl; counts = refl; marks = refl; values = (λ e. absurd (n e)); columns = (λ e _. absurd (n e)) }
 
 eigen-alike : (f : Format) (r q : EigenAnswer) → Reversed r q → Alike (fromEigen3 f r) (fromEigen3 f q)
-eigen-alike f r q h = record { codes = h .codes; counts = ap (λ (m : Made). m .count) (h .made); marks = ap markOf (h .marks); values = h .values; columns = h .columns }
+eigen-alike f r q h =
+    record { codes = h .codes; counts = ap (λ (m : Made). m .count) (h .made); marks = ap markOf (h .marks); values = h .values; columns = h .columns }
 
 all-finite-neg : (n : ℕ) (g : ℕ → Float) → allFinite (tabulate n (λ (i : ℕ). neg (g i))) ≡ allFinite (tabulate n g)
 unfolding allFinite
@@ -171,13 +175,16 @@ module _ (f : Format) (a0 a1 a2 a3 a5 a6 a7 : ℕ) (body : List ℕ) (size : len
       ∙ ap (λ (y : List ℕ). neg (ofBits f (wordOf (take (width f) y)))) (sym (in-body body (width f * i)))
 
   six-negated : tabulate 6 (numberIn other) ≡ negated (tabulate 6 (numberIn body))
-  six-negated = tabulate-same 6 (numberIn other) (λ (i : ℕ). neg (at (tabulate 6 (numberIn body)) i)) (λ i l. number-negated i l ∙ ap neg (sym (at-tabulate 6 (numberIn body) i l)))
+  six-negated =
+      tabulate-same 6 (numberIn other) (λ (i : ℕ). neg (at (tabulate 6 (numberIn body)) i))
+      (λ i l. number-negated i l ∙ ap neg (sym (at-tabulate 6 (numberIn body) i l)))
 
   same-form : formOf f (request other) ≡ formOf f (request body)
   unfolding formOf
   same-form =
       ap (λ (t : Bool). pick (reservedZero (request body) && t) 0 4)
-      (ap (λ (y : List ℕ). allZero (take (threeAt f - placeOf f nineAt 6) y) && zeroFrom (placeOf f (threeAt f) 0) (requestSize f) (request other)) (same-behind (width f * 6) (omega arith))
+      (ap (λ (y : List ℕ). allZero (take (threeAt f - placeOf f nineAt 6) y) && zeroFrom (placeOf f (threeAt f) 0) (requestSize f) (request other))
+      (same-behind (width f * 6) (omega arith))
       ∙ ap (λ (y : List ℕ). zeroFrom (placeOf f nineAt 6) (threeAt f) (request body) && allZero (take (requestSize f - placeOf f (threeAt f) 0) y)) three-same)
     where
       three-same : drop (placeOf f (threeAt f) 0) (request other) ≡ drop (placeOf f (threeAt f) 0) (request body)
@@ -201,7 +208,8 @@ module _ (f : Format) (a0 a1 a2 a3 a5 a6 a7 : ℕ) (body : List ℕ) (size : len
       let firsts : firstOf 6 (tabulate 9 (numberIn other)) ≡ negated (firstOf 6 (tabulate 9 (numberIn body))) =
       first-tabulate 6 9 (numberIn other) (omega arith) ∙ six-negated ∙ ap negated (sym (first-tabulate 6 9 (numberIn body) (omega arith))) in
       eigen-alike f (eigenOf f (firstOf 6 (tabulate 9 (numberIn body)))) (eigenOf f (firstOf 6 (tabulate 9 (numberIn other))))
-      (subst (λ (y : List Float). Reversed (eigenOf f (firstOf 6 (tabulate 9 (numberIn body)))) (eigenOf f y)) (sym firsts) (reversed f (firstOf 6 (tabulate 9 (numberIn body))) refl))
+      (subst (λ (y : List Float). Reversed (eigenOf f (firstOf 6 (tabulate 9 (numberIn body)))) (eigenOf f y)) (sym firsts)
+      (reversed f (firstOf 6 (tabulate 9 (numberIn body))) refl))
 
   -- the same tests on both sides, so the same side of each choice is taken
   both-chosen : (t : Bool) (x y z : Worked) → Alike x y → (t ≡ false → Alike z z) → Alike (pick t x z) (pick t y z)
@@ -235,7 +243,8 @@ reversed-records f (a0 ∷ a1 ∷ a2 ∷ a3 ∷ a4 ∷ []) h k b = absurd (omega
 reversed-records f (a0 ∷ a1 ∷ a2 ∷ a3 ∷ a4 ∷ a5 ∷ []) h k b = absurd (omega arith)
 reversed-records f (a0 ∷ a1 ∷ a2 ∷ a3 ∷ a4 ∷ a5 ∷ a6 ∷ []) h k b = absurd (omega arith)
 reversed-records f (a0 ∷ a1 ∷ a2 ∷ a3 ∷ a4 ∷ a5 ∷ a6 ∷ a7 ∷ body) h k b =
-    subst (λ (kind : ℕ). ReversedRecords f (a0 ∷ a1 ∷ a2 ∷ a3 ∷ kind ∷ a5 ∷ a6 ∷ a7 ∷ body) (flipped f (a0 ∷ a1 ∷ a2 ∷ a3 ∷ kind ∷ a5 ∷ a6 ∷ a7 ∷ body))) (sym k)
+    subst (λ (kind : ℕ). ReversedRecords f (a0 ∷ a1 ∷ a2 ∷ a3 ∷ kind ∷ a5 ∷ a6 ∷ a7 ∷ body) (flipped f (a0 ∷ a1 ∷ a2 ∷ a3 ∷ kind ∷ a5 ∷ a6 ∷ a7 ∷ body)))
+    (sym k)
     (reversed-request f a0 a1 a2 a3 a5 a6 a7 body (omega arith) (bytes-drop 8 (a0 ∷ a1 ∷ a2 ∷ a3 ∷ a4 ∷ a5 ∷ a6 ∷ a7 ∷ body) b))
 
 -- ---- any two answers within the promise of the record step, of which the second is to the flipped request
@@ -258,5 +267,9 @@ reversed-calls κs a b r q x y p w u v n k c e =
     let h : ReversedRecords F s t = subst (ReversedRecords F s) (sym e) (reversed-records F s n k c) in
     let l = stepped s (a .1 .0 .now) n u in
     let o = stepped t (b .1 .0 .now) m v in
-    let code : List ℕ → ℕ = λ (z : List ℕ). getD z 5 0 in
-    (p .0 ∙ sym (code-in-place F s (a .1 .0 .now) u) ∙ ap code l ∙ h .codes ∙ sym (ap code o) ∙ code-in-place F t (b .1 .0 .now) v ∙ sym (w .0), p .1 ∙ l, w .1 ∙ o, h)
+    let code : List ℕ → ℕ = λ (z : List ℕ). getD z 5 0 in (
+      p .0 ∙ sym (code-in-place F s (a .1 .0 .now) u) ∙ ap code l ∙ h .codes ∙ sym (ap code o) ∙ code-in-place F t (b .1 .0 .now) v ∙ sym (w .0),
+      p .1 ∙ l,
+      w .1 ∙ o,
+      h,
+    )

@@ -1,4 +1,5 @@
--- Reversed wiring at the record: a request, the one with the signs of its six numbers flipped, and what their answers have to do with each other. Definitions only.
+-- Reversed wiring at the record: a request, the one with the signs of its six numbers flipped, and what their answers have to do with each other.
+-- Definitions only.
 use mathlib.Core.Path.{_≡_}
 use mathlib.Core.List.{List, [], _∷_, _++_}
 use Prim.Native.Nat.{ℕ, zero, suc, _+_, _-_, _%_, _<_}

@@ -78,29 +78,42 @@ unfolding recordStepOf
 no-room f s a n = rw (ne-eqb (length a) (answerSize f) n)
 
 pub code-unless-2 : (f : Format) (s a : List ℕ) → (recordStepOf f s a .code ≡ 2 → ⊥) → getD (recordStepOf f s a .answer) codeAt 0 ≡ recordStepOf f s a .code
-code-unless-2 f s a k = ⊎-elim (λ (e : length a ≡ answerSize f). code-in-place f s a e) (λ (n : length a ≡ answerSize f → ⊥). absurd (k (no-room f s a n))) (same? (length a) (answerSize f))
+code-unless-2 f s a k =
+    ⊎-elim (λ (e : length a ≡ answerSize f). code-in-place f s a e) (λ (n : length a ≡ answerSize f → ⊥). absurd (k (no-room f s a n)))
+    (same? (length a) (answerSize f))
 
 -- ---- with a code other than 0 the mark is zero, and every byte from 8 to the end
 
-record-clear : (f : Format) (event : List ℕ) (kind code pivot : ℕ) → length event ≡ 4 → drop 7 (recordOf f event kind (refusedKind f code pivot)) ≡ 0 ∷ replicate (answerSize f - numbersAt) 0
+record-clear : (f : Format) (event : List ℕ) (kind code pivot : ℕ) → length event ≡ 4
+    → drop 7 (recordOf f event kind (refusedKind f code pivot)) ≡ 0 ∷ replicate (answerSize f - numbersAt) 0
 unfolding recordOf
 record-clear f event kind code pivot h =
     let e : numberBytes f * 3 + (numberBytes f * 9 + numberBytes f * 9) ≡ answerSize f - numbersAt = omega arith in
     ap (λ (k : ℕ). drop (k + 3) (recordOf f event kind (refusedKind f code pivot))) (sym h)
     ∙ drop-append-add event _ 3
-    ∙ ap (λ (l : List ℕ). 0 ∷ l) (rw (zeros-bytes f 3, zeros-bytes f 9, replicate-append-replicate {A = ℕ} (numberBytes f * 9) (numberBytes f * 9) 0, replicate-append-replicate {A = ℕ} (numberBytes f * 3) (numberBytes f * 9 + numberBytes f * 9) 0, e))
+    ∙ ap (λ (l : List ℕ). 0 ∷ l)
+    (rw (
+      zeros-bytes f 3,
+      zeros-bytes f 9,
+      replicate-append-replicate {A = ℕ} (numberBytes f * 9) (numberBytes f * 9) 0,
+      replicate-append-replicate {A = ℕ} (numberBytes f * 3) (numberBytes f * 9 + numberBytes f * 9) 0,
+      e,
+    ))
 
-pub refused-unmarked : (f : Format) (s a : List ℕ) → length a ≡ answerSize f → (recordStepOf f s a .code ≡ 0 → ⊥) → drop 7 (recordStepOf f s a .answer) ≡ 0 ∷ replicate (answerSize f - numbersAt) 0
+pub refused-unmarked : (f : Format) (s a : List ℕ) → length a ≡ answerSize f → (recordStepOf f s a .code ≡ 0 → ⊥)
+    → drop 7 (recordStepOf f s a .answer) ≡ 0 ∷ replicate (answerSize f - numbersAt) 0
 refused-unmarked f s a h =
     each-record (λ (t : Step). (t .code ≡ 0 → ⊥) → drop 7 (t .answer) ≡ 0 ∷ replicate (answerSize f - numbersAt) 0) f s a h
     (λ event kind w e _ c k. ap (λ (w : Worked). drop 7 (recordOf f event kind w)) (c k) ∙ record-clear f event kind (w .code) (w .count) e)
 
-pub refused-clear : (f : Format) (s a : List ℕ) → length a ≡ answerSize f → (recordStepOf f s a .code ≡ 0 → ⊥) → drop numbersAt (recordStepOf f s a .answer) ≡ replicate (answerSize f - numbersAt) 0
+pub refused-clear : (f : Format) (s a : List ℕ) → length a ≡ answerSize f → (recordStepOf f s a .code ≡ 0 → ⊥)
+    → drop numbersAt (recordStepOf f s a .answer) ≡ replicate (answerSize f - numbersAt) 0
 refused-clear f s a h k = sym (drop-drop 1 7 (recordStepOf f s a .answer)) ∙ ap (drop 1) (refused-unmarked f s a h k)
 
 -- ---- after the record's test no kernel gives 5
 
-pub five-is-the-test : (f : Format) (s : List ℕ) → usedFinite f (kindOf s) s ≡ true → workOf f (kindOf s) (numbersFrom f 9 nineAt s) (numbersFrom f 3 (threeAt f) s) .code ≡ 5 → ⊥
+pub five-is-the-test : (f : Format) (s : List ℕ) → usedFinite f (kindOf s) s ≡ true
+    → workOf f (kindOf s) (numbersFrom f 9 nineAt s) (numbersFrom f 3 (threeAt f) s) .code ≡ 5 → ⊥
 five-is-the-test f s h =
     let used = used-numbers f (kindOf s) s h in
     work-five f (kindOf s) (numbersFrom f 9 nineAt s) (numbersFrom f 3 (threeAt f) s) (used .0) (used .1)
@@ -113,5 +126,10 @@ answers-size f zero s h = sym (mul-zero (answerSize f))
 answers-size f (suc n) s h =
     let k : requestSize f * n + requestSize f ≤ length s = rw mul-suc at h in
     let size : length (requestOf f n s) ≡ requestSize f = simp (length-take, length-drop) (omega arith) in
-    rw (length-append, answers-size f n s (omega arith), record-size f (take eventBytes (requestOf f n s)) (kindOf (requestOf f n s)) (judgedOf f (requestOf f n s)) (event-length f (requestOf f n s) size) (judged-sized f (requestOf f n s)))
+    rw (
+      length-append,
+      answers-size f n s (omega arith),
+      record-size f (take eventBytes (requestOf f n s)) (kindOf (requestOf f n s)) (judgedOf f (requestOf f n s)) (event-length f (requestOf f n s) size)
+          (judged-sized f (requestOf f n s)),
+    )
     (sym (mul-suc (answerSize f) n))

@@ -24,9 +24,12 @@ unfolding numberBytesOf
 bytes-of-both f [] ys = refl
 bytes-of-both f (x ∷ xs) ys = rw (bytes-of-both f xs ys, append-assoc)
 
-bytes-of-more : (f : Format) (xs : List Float) (i : ℕ) → i < length xs → numberBytesOf f (take (i + 1) xs) ≡ numberBytesOf f (take i xs) ++ wordBytes f (getD xs i nan)
+bytes-of-more : (f : Format) (xs : List Float) (i : ℕ) → i < length xs
+    → numberBytesOf f (take (i + 1) xs) ≡ numberBytesOf f (take i xs) ++ wordBytes f (getD xs i nan)
 unfolding numberBytesOf
-bytes-of-more f xs i h = rw (add-one, take-suc xs i nan h, bytes-of-both) (ap (λ (l : List ℕ). numberBytesOf f (take i xs) ++ l) (append-nil (wordBytes f (getD xs i nan))))
+bytes-of-more f xs i h =
+    rw (add-one, take-suc xs i nan h, bytes-of-both)
+    (ap (λ (l : List ℕ). numberBytesOf f (take i xs) ++ l) (append-nil (wordBytes f (getD xs i nan))))
 
 -- a number written behind those that are
 pub number-more : (f : Format) (out′ out out₀ : List ℕ) (xs : List Float) (at i : ℕ) → i < length xs
@@ -70,7 +73,8 @@ number-of-bytes f x h =
     rw (word-of-bytes (numberBytes f) (toBits f x) (rw whole-width at (toBits-lt f x h))) (ofBits-toBits f x h)
 
 -- the bytes of a NaN are the exception: every NaN is written as the quiet one
-pub bytes-of-number : (f : Format) (l : List ℕ) → length l ≡ numberBytes f → ((i : ℕ) → getD l i 0 < 256) → T (not (isNan (ofBits f (wordOf l)))) → wordBytes f (ofBits f (wordOf l)) ≡ l
+pub bytes-of-number : (f : Format) (l : List ℕ) → length l ≡ numberBytes f → ((i : ℕ) → getD l i 0 < 256) → T (not (isNan (ofBits f (wordOf l))))
+    → wordBytes f (ofBits f (wordOf l)) ≡ l
 bytes-of-number f l n h t =
     let k : wordOf l < 2 * top f = rw (whole-width f, ← n) (word-below l h) in
     rw (toBits-ofBits f (wordOf l) k t, ← n) (bytes-of-word l h)

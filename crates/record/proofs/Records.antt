@@ -21,4 +21,7 @@ unfolding recordOf
 record-of-parts f event kind w l₁ l₂ l₃ l₄ i j k n e p q r s m =
     sym (take-all n l₄ m)
     ∙ (rw (s, r, q, p, append-assoc, append-assoc))
-    ∙ ap (λ (v : List ℕ). v ++ (kind ∷ w .code ∷ w .count ∷ w .settled ∷ (numberBytesOf f (w .values) ++ (numberBytesOf f (w .left) ++ numberBytesOf f (w .right))))) (four event e)
+    ∙ ap
+    (λ (v : List ℕ). v ++ (kind ∷ w .code ∷ w .count ∷ w .settled
+    ∷ (numberBytesOf f (w .values) ++ (numberBytesOf f (w .left) ++ numberBytesOf f (w .right)))))
+    (four event e)

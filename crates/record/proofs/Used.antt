@@ -15,9 +15,13 @@ use Rattle.record.specs.Layout.{nineAt, threeAt, placeOf}
 use Rattle.record.specs.Bytes.{numberAt, numbersFrom}
 use Rattle.record.specs.Request.{usedFinite}
 
-pub used-first : (f : Format) (kind : ℕ) (s : List ℕ) → (allFinite (take (nineUsed kind) (numbersFrom f 9 nineAt s)) && allFinite (take (threeUsed kind) (numbersFrom f 3 (threeAt f) s))) ≡ usedFinite f kind s
+pub used-first : (f : Format) (kind : ℕ) (s : List ℕ)
+    → (allFinite (take (nineUsed kind) (numbersFrom f 9 nineAt s)) && allFinite (take (threeUsed kind) (numbersFrom f 3 (threeAt f) s))) ≡ usedFinite f kind s
 used-first f kind s =
-    rw (take-tabulate (nineUsed kind) 9 (λ (i : ℕ). numberAt f (placeOf f nineAt i) s) (nine-most kind), take-tabulate (threeUsed kind) 3 (λ (i : ℕ). numberAt f (placeOf f (threeAt f) i) s) (three-most kind))
+    rw (
+      take-tabulate (nineUsed kind) 9 (λ (i : ℕ). numberAt f (placeOf f nineAt i) s) (nine-most kind),
+      take-tabulate (threeUsed kind) 3 (λ (i : ℕ). numberAt f (placeOf f (threeAt f) i) s) (three-most kind),
+    )
 
 -- a request whose used numbers are finite: so are the first ones of its nine and of its three
 pub used-numbers : (f : Format) (kind : ℕ) (s : List ℕ) → usedFinite f kind s ≡ true

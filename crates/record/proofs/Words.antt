@@ -12,7 +12,8 @@ use Rattle.record.specs.Bytes.{wordOf, bytesOf, part}
 use Rattle.record.proofs.Parts.{part-more, stored-behind}
 
 -- a byte in front of a word
-pub word-more : (s : List ℕ) (a a′ n n′ w b : ℕ) → a < length s → a′ ≡ a + 1 → n′ ≡ n + 1 → b ≡ getD s a 0 → w ≡ wordOf (part a′ n s) → w * 256 + b ≡ wordOf (part a n′ s)
+pub word-more : (s : List ℕ) (a a′ n n′ w b : ℕ) → a < length s → a′ ≡ a + 1 → n′ ≡ n + 1 → b ≡ getD s a 0 → w ≡ wordOf (part a′ n s)
+    → w * 256 + b ≡ wordOf (part a n′ s)
 unfolding wordOf
 word-more s a a′ n n′ w b h e k p q = rw (part-more a n′ n s h k, ← e, ← p, ← q) (omega arith)
 
@@ -24,7 +25,8 @@ pub word-fits : (n w : ℕ) → n ≤ numberBytes F → w < 256 ^ n → w < 256 
 word-fits n w h k = let p : 256 ^ n ≤ 256 ^ numberBytes F = pow-le-pow-right (omega arith) h in omega arith
 
 -- a byte stored-behind in front of the rest of its word
-pub bytes-more : (out t : List ℕ) (j j′ k k′ rest : ℕ) → j < length out → j′ ≡ j + 1 → k ≡ k′ + 1 → take j out ++ bytesOf k rest ≡ t → take j′ (set out j (rest % 256)) ++ bytesOf k′ (rest / 256) ≡ t
+pub bytes-more : (out t : List ℕ) (j j′ k k′ rest : ℕ) → j < length out → j′ ≡ j + 1 → k ≡ k′ + 1 → take j out ++ bytesOf k rest ≡ t
+    → take j′ (set out j (rest % 256)) ++ bytesOf k′ (rest / 256) ≡ t
 unfolding bytesOf
 bytes-more out t j j′ k k′ rest h e f q =
     rw (stored-behind out j j′ (rest % 256) e h, append-assoc) (ap (λ (n : ℕ). take j out ++ bytesOf n rest) (sym (add-one k′) ∙ sym f) ∙ q)

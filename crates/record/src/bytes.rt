@@ -57,7 +57,8 @@ pub(crate) fn number_at(s: &[u8], at: usize) -> Real
 // The numbers' bytes from `at` on.
 pub(crate) fn put_numbers(out: &mut [u8], at: usize, xs: &[Real])
     requires { ⌜ at + numberBytes F * length (now xs) ≤ length (now out) ⌝ }
-    ensures { λ _. ⌜ take (at + numberBytes F * length (now (xs .entry))) (now (out .exit)) ≡ take at (now (out .entry)) ++ numberBytesOf F (now (xs .entry)) ⌝ }
+    ensures { λ _. ⌜ take (at + numberBytes F * length (now (xs .entry))) (now (out .exit))
+        ≡ take at (now (out .entry)) ++ numberBytesOf F (now (xs .entry)) ⌝ }
 {
     let mut i = 0usize;
     while i < xs.len() {

@@ -14,7 +14,8 @@ ghost use Rattle.record.specs.Stream.{requestOf, wholeRecords, streamOf,
 // Answers the request with number i.
 fn answer_one(requests: &[u8], answers: &mut [u8], i: usize)
     requires { ⌜ (requestSize F * i + requestSize F ≤ length (now requests)) × (answerSize F * i + answerSize F ≤ length (now answers)) ⌝ }
-    ensures { λ _. ⌜ take (answerSize F * i + answerSize F) (now (answers .exit)) ≡ take (answerSize F * i) (now (answers .entry)) ++ answeredOf F (requestOf F i (now (requests .entry))) ⌝ }
+    ensures { λ _. ⌜ take (answerSize F * i + answerSize F) (now (answers .exit))
+        ≡ take (answerSize F * i) (now (answers .entry)) ++ answeredOf F (requestOf F i (now (requests .entry))) ⌝ }
     ensures { λ _. ⌜ drop (answerSize F * i + answerSize F) (now (answers .exit)) ≡ drop (answerSize F * i + answerSize F) (now (answers .entry)) ⌝ }
 {
     let a = REQUEST_SIZE * i;

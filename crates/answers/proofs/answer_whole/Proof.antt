@@ -12,7 +12,8 @@ use Rattle.answers.specs.Buffers.{room}
 use Rattle.answers.proofs.answer_whole.Statement.{statement}
 use Rattle.answers.proofs.answer_whole.Tie as tie
 
-counted : (total : ℕ) (buf out : List ℕ) → length buf ≡ 65536 → length out ≡ 65536 → total ≤ room F → streamOf F (take total buf) out .count ≡ total / requestSize F
+counted : (total : ℕ) (buf out : List ℕ) → length buf ≡ 65536 → length out ≡ 65536 → total ≤ room F
+    → streamOf F (take total buf) out .count ≡ total / requestSize F
 unfolding streamOf
 counted total buf out h k l = simp length-take (omega arith)
 

@@ -34,8 +34,12 @@ loop-less c = omega arith
 loop-again : tie.Need-loop-again Inv-loop μ-loop
 loop-again c =
     let k = c .before .before in
-    let a = k .before .args in
-    (omega arith, simp length-set (omega arith), moved (k .loop .buf) (a .buf .now) (k .loop .i) (k .loop .inv .3) (a .from) (omega arith) (k .loop .inv .1) (k .loop .inv .2), rest-kept (k .loop .buf) (a .buf .now) (k .loop .i) (k .loop .inv .3) _)
+    let a = k .before .args in (
+      omega arith,
+      simp length-set (omega arith),
+      moved (k .loop .buf) (a .buf .now) (k .loop .i) (k .loop .inv .3) (a .from) (omega arith) (k .loop .inv .1) (k .loop .inv .2),
+      rest-kept (k .loop .buf) (a .buf .now) (k .loop .i) (k .loop .inv .3) _,
+    )
 
 same-length : tie.Need-same-length Inv-loop μ-loop
 same-length c = omega arith

@@ -8,7 +8,8 @@ use Rattle.answers.proofs.main.Statement.{statement}
 use Rattle.answers.proofs.main.Tie as tie
 
 abbrev Inv-loop : tie.InvT-loop
-Inv-loop buf₀ out₀ have₀ written₀ rounds₀ t7 buf out have written rounds = Large buf × Large out × (have < requestSize F) × (written + batch F * rounds ≤ batch F * 2 ^ 53)
+Inv-loop buf₀ out₀ have₀ written₀ rounds₀ t7 buf out have written rounds =
+    Large buf × Large out × (have < requestSize F) × (written + batch F * rounds ≤ batch F * 2 ^ 53)
 
 abbrev μ-loop : tie.MeasureT-loop
 μ-loop buf₀ out₀ have₀ written₀ rounds₀ t7 buf out have written rounds = rounds

@@ -25,7 +25,11 @@ returns-3 c =
     let past2 = applied .before in
     let past1 = past2 .before .before .before in
     let tested = c .before .all-finite3 .ensures ∙ ap (λ (m : Sym3). allFinite (m .«data»)) (applied .apply-rotation .ensures) in
-    simp (passes (past1 .before .all-finite .ensures) (past1 .if1 .left), passes (past2 .before .all-finite2 .ensures) (past2 .if2 .left), fails tested (c .if3 .taken))
+    simp (
+      passes (past1 .before .all-finite .ensures) (past1 .if1 .left),
+      passes (past2 .before .all-finite2 .ensures) (past2 .if2 .left),
+      fails tested (c .if3 .taken),
+    )
 
 returns-4 : tie.Need-returns-4
 unfolding rotatedOf
@@ -34,7 +38,12 @@ returns-4 c =
     let past2 = applied .before in
     let past1 = past2 .before .before .before in
     let tested = c .before .all-finite3 .ensures ∙ ap (λ (m : Sym3). allFinite (m .«data»)) (applied .apply-rotation .ensures) in
-    rw (passes (past1 .before .all-finite .ensures) (past1 .if1 .left), passes (past2 .before .all-finite2 .ensures) (past2 .if2 .left), passes tested (c .if3 .left)) (ap (λ (m : Sym3). record { code = 0; matrix = m }) (applied .apply-rotation .ensures))
+    rw (
+      passes (past1 .before .all-finite .ensures) (past1 .if1 .left),
+      passes (past2 .before .all-finite2 .ensures) (past2 .if2 .left),
+      passes tested (c .if3 .left),
+    )
+    (ap (λ (m : Sym3). record { code = 0; matrix = m }) (applied .apply-rotation .ensures))
 
 pub rotated-spec : {M : Type 1} → statement M
 rotated-spec =

@@ -42,13 +42,17 @@ returns-2 : tie.Need-returns-2
 returns-2 c =
     let k = c .before .before .before .before in
     let s = start k in
-    c .stopped2 .ensures ∙ ap factor2 (stops-second2 F (l-of s) (a-of s) (l11 k) (l21 k) (c .before .before .before .pivot-step2 .ensures) (c .before .enum-told2 .given .1) ∙ first k)
+    c .stopped2 .ensures
+    ∙ ap factor2
+    (stops-second2 F (l-of s) (a-of s) (l11 k) (l21 k) (c .before .before .before .pivot-step2 .ensures) (c .before .enum-told2 .given .1) ∙ first k)
 
 returns-3 : tie.Need-returns-3
 returns-3 c =
     let k = c .before .before .before .before .before in
     let s = start k in
-    c .whole .ensures ∙ ap factor2 (goes-second2 F (l-of s) (a-of s) (l11 k) (l21 k) (c .before .before .before .before .pivot-step2 .ensures) (c .before .before .p2 .given .1) ∙ first k)
+    c .whole .ensures
+    ∙ ap factor2
+    (goes-second2 F (l-of s) (a-of s) (l11 k) (l21 k) (c .before .before .before .before .pivot-step2 .ensures) (c .before .before .p2 .given .1) ∙ first k)
 
 pub steps-spec : {M : Type 1} → statement M
 steps-spec =

@@ -45,9 +45,11 @@ abbrev l32 : tie.After-known-told2 → Float
 l32 c = div F (sub F (at (a-of (start (one c))) 4) (mul F (l21 (one c)) (l31 c))) (l22 c)
 
 second : (c : tie.After-known-told2) →
-    third3Of F (l-of (start (one c))) (a-of (start (one c))) (l11 (one c)) (l21 (one c)) (l22 c) (l31 c) (l32 c) ≡ steps3Of F (l-of (start (one c))) (a-of (start (one c)))
+    third3Of F (l-of (start (one c))) (a-of (start (one c))) (l11 (one c)) (l21 (one c)) (l22 c) (l31 c) (l32 c)
+    ≡ steps3Of F (l-of (start (one c))) (a-of (start (one c)))
 second c =
-    goes-second3 F (l-of (start (one c))) (a-of (start (one c))) (l11 (one c)) (l21 (one c)) (c .before .before .before .pivot-step2 .ensures) (c .before .p2 .given .1)
+    goes-second3 F (l-of (start (one c))) (a-of (start (one c))) (l11 (one c)) (l21 (one c)) (c .before .before .before .pivot-step2 .ensures)
+    (c .before .p2 .given .1)
     ∙ first (one c)
 
 enum-told : tie.Need-enum-told
@@ -62,19 +64,29 @@ returns-2 : tie.Need-returns-2
 returns-2 c =
     let k = c .before .before .before .before in
     let s = start k in
-    c .stopped2 .ensures ∙ ap factor3 (stops-second3 F (l-of s) (a-of s) (l11 k) (l21 k) (c .before .before .before .pivot-step2 .ensures) (c .before .enum-told2 .given .1) ∙ first k)
+    c .stopped2 .ensures
+    ∙ ap factor3
+    (stops-second3 F (l-of s) (a-of s) (l11 k) (l21 k) (c .before .before .before .pivot-step2 .ensures) (c .before .enum-told2 .given .1) ∙ first k)
 
 returns-3 : tie.Need-returns-3
 returns-3 c =
     let k = c .before .before .before .before in
     let s = start (one k) in
-    c .stopped3 .ensures ∙ ap factor3 (stops-third3 F (l-of s) (a-of s) (l11 (one k)) (l21 (one k)) (l22 k) (l31 k) (l32 k) (c .before .before .before .pivot-step3 .ensures) (c .before .enum-told3 .given .1) ∙ second k)
+    c .stopped3 .ensures
+    ∙ ap factor3
+    (stops-third3 F (l-of s) (a-of s) (l11 (one k)) (l21 (one k)) (l22 k) (l31 k) (l32 k)
+    (c .before .before .before .pivot-step3 .ensures) (c .before .enum-told3 .given .1)
+    ∙ second k)
 
 returns-4 : tie.Need-returns-4
 returns-4 c =
     let k = c .before .before .before .before .before in
     let s = start (one k) in
-    c .whole .ensures ∙ ap factor3 (goes-third3 F (l-of s) (a-of s) (l11 (one k)) (l21 (one k)) (l22 k) (l31 k) (l32 k) (c .before .before .before .before .pivot-step3 .ensures) (c .before .before .p3 .given .1) ∙ second k)
+    c .whole .ensures
+    ∙ ap factor3
+    (goes-third3 F (l-of s) (a-of s) (l11 (one k)) (l21 (one k)) (l22 k) (l31 k) (l32 k)
+    (c .before .before .before .before .pivot-step3 .ensures) (c .before .before .p3 .given .1)
+    ∙ second k)
 
 pub steps-spec : {M : Type 1} → statement M
 steps-spec =

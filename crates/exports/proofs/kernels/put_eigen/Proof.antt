@@ -9,10 +9,12 @@ use Rattle.exports.proofs.kernels.put_eigen.Tie as tie
 
 returns : tie.Need-returns
 returns c =
-    let e₁ = c .before .before .before .before .before .before .before .before .before .before .put-three .ensures in
+    let p = c .before .before .before .before .before .before .before .before .before .before in
+    let e₁ = p .put-three .ensures in
     let e₂ = rw e₁ at (c .before .before .before .before .before .before .put-mat3 .ensures) in
     let e₃ = rw e₂ at (c .before .before .put-sym3 .ensures) in
-    _∙_ {c = eigenNumbers (ofEigen3 (c .before .before .before .before .before .before .before .before .before .before .before .before .before .before .before .before .args .r))} (sym (take-all 18 (c .before .before .put-sym3 .last .0) (search needs))) e₃
+    _∙_ {c = eigenNumbers (ofEigen3 (p .before .before .before .before .before .before .args .r))}
+    (sym (take-all 18 (c .before .before .put-sym3 .last .0) (search needs))) e₃
 
 pub put-eigen-spec : {M : Type 1} → statement M
 put-eigen-spec =

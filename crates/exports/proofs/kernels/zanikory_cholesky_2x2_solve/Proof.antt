@@ -18,7 +18,8 @@ returns-3 : tie.Need-returns-3
 unfolding solve2Into
 returns-3 c =
     let m = c .before .before .before .before in
-    rw (le-leb 2 _ (m .before .before .if1 .left), eq-eqb _ 3 (m .before .if2 .left)) (rw (m .sym2-of .ensures) at (c .before .before .cholesky-2x2-explicit-solve .ensures))
+    rw (le-leb 2 _ (m .before .before .if1 .left), eq-eqb _ 3 (m .before .if2 .left))
+    (rw (m .sym2-of .ensures) at (c .before .before .cholesky-2x2-explicit-solve .ensures))
 
 pub zanikory-cholesky-2x2-solve-spec : {M : Type 1} → statement M
 zanikory-cholesky-2x2-solve-spec =

@@ -18,7 +18,8 @@ returns-3 : tie.Need-returns-3
 unfolding solve3Into
 returns-3 c =
     let m = c .before .before .before .before in
-    rw (le-leb 3 _ (m .before .before .if1 .left), eq-eqb _ 6 (m .before .if2 .left)) (rw (m .sym3-of .ensures) at (c .before .before .cholesky-3x3-explicit-solve .ensures))
+    rw (le-leb 3 _ (m .before .before .if1 .left), eq-eqb _ 6 (m .before .if2 .left))
+    (rw (m .sym3-of .ensures) at (c .before .before .cholesky-3x3-explicit-solve .ensures))
 
 pub zanikory-cholesky-3x3-solve-spec : {M : Type 1} → statement M
 zanikory-cholesky-3x3-solve-spec =

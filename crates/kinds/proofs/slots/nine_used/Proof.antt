@@ -30,7 +30,18 @@ returns-8 : tie.Need-returns-8
 returns-8 c = sym (ap nineUsed (c .match .keys8))
 
 returns-9 : tie.Need-returns-9
-returns-9 c = let r = c .match .rest in rw (ne-eqb _ 1 (r .0 .0 .0 .0 .0 .0 .0 .1), ne-eqb _ 2 (r .0 .0 .0 .0 .0 .0 .1), ne-eqb _ 3 (r .0 .0 .0 .0 .0 .1), ne-eqb _ 4 (r .0 .0 .0 .0 .1), ne-eqb _ 5 (r .0 .0 .0 .1), ne-eqb _ 6 (r .0 .0 .1), ne-eqb _ 7 (r .0 .1), ne-eqb _ 8 (r .1))
+returns-9 c =
+    let r = c .match .rest in
+    rw (
+      ne-eqb _ 1 (r .0 .0 .0 .0 .0 .0 .0 .1),
+      ne-eqb _ 2 (r .0 .0 .0 .0 .0 .0 .1),
+      ne-eqb _ 3 (r .0 .0 .0 .0 .0 .1),
+      ne-eqb _ 4 (r .0 .0 .0 .0 .1),
+      ne-eqb _ 5 (r .0 .0 .0 .1),
+      ne-eqb _ 6 (r .0 .0 .1),
+      ne-eqb _ 7 (r .0 .1),
+      ne-eqb _ 8 (r .1),
+    )
 
 pub nine-used-spec : {M : Type 1} → statement M
 nine-used-spec =

@@ -66,7 +66,19 @@ returns-8 c =
 
 returns-9 : tie.Need-returns-9
 unfolding workOf
-returns-9 c = let r = c .before .match .rest in rw (ne-eqb _ 1 (r .0 .0 .0 .0 .0 .0 .0 .1), ne-eqb _ 2 (r .0 .0 .0 .0 .0 .0 .1), ne-eqb _ 3 (r .0 .0 .0 .0 .0 .1), ne-eqb _ 4 (r .0 .0 .0 .0 .1), ne-eqb _ 5 (r .0 .0 .0 .1), ne-eqb _ 6 (r .0 .0 .1), ne-eqb _ 7 (r .0 .1), ne-eqb _ 8 (r .1)) (c .refused .ensures)
+returns-9 c =
+    let r = c .before .match .rest in
+    rw (
+      ne-eqb _ 1 (r .0 .0 .0 .0 .0 .0 .0 .1),
+      ne-eqb _ 2 (r .0 .0 .0 .0 .0 .0 .1),
+      ne-eqb _ 3 (r .0 .0 .0 .0 .0 .1),
+      ne-eqb _ 4 (r .0 .0 .0 .0 .1),
+      ne-eqb _ 5 (r .0 .0 .0 .1),
+      ne-eqb _ 6 (r .0 .0 .1),
+      ne-eqb _ 7 (r .0 .1),
+      ne-eqb _ 8 (r .1),
+    )
+    (c .refused .ensures)
 
 pub work-spec : {M : Type 1} → statement M
 work-spec =

@@ -44,8 +44,10 @@ returns c =
     let v : length (a .w .values) ≡ 3 = sizes start .1 in
     let l : length (a .w .left) ≡ 9 = sizes start .2 in
     let r : length (a .w .right) ≡ 9 = sizes start .3 in
-    record-of-parts F (a .t2) (a .kind) (a .w) (head .put-head .last .0) (values .put-numbers .last .0) (left .put-numbers2 .last .0) (right .put-numbers3 .last .0) numbersAt (placeOf F numbersAt 3) (placeOf F numbersAt 12) (answerSize F) (sizes start .0)
-    (head .put-head .ensures) (rw v at (values .put-numbers .ensures)) (rw l at (left .put-numbers2 .ensures)) (rw r at (right .put-numbers3 .ensures)) (omega (arith, same-length c, start .pre))
+    record-of-parts F (a .t2) (a .kind) (a .w) (head .put-head .last .0) (values .put-numbers .last .0) (left .put-numbers2 .last .0)
+    (right .put-numbers3 .last .0) numbersAt (placeOf F numbersAt 3) (placeOf F numbersAt 12) (answerSize F) (sizes start .0)
+    (head .put-head .ensures) (rw v at (values .put-numbers .ensures)) (rw l at (left .put-numbers2 .ensures)) (rw r at (right .put-numbers3 .ensures))
+    (omega (arith, same-length c, start .pre))
 
 pub put-record-spec : {M : Type 1} → statement M
 put-record-spec =

@@ -32,7 +32,10 @@ loop-again c =
     let a = c .before .before .before .before .before .before .before .before .before .before .args in (
       omega arith,
       omega arith,
-      number-more F (c .before .before .put-word .last .0) (l .out) (a .out .now) (a .xs .now) (a .at) (l .i) (omega arith) (c .before .before .put-word .ensures ∙ ap (λ (w : ℕ). take (a .at + numberBytes F * l .i) (l .out) ++ bytesOf (numberBytes F) w) (c .before .before .before .to-bits .ensures)) (l .inv .2),
+      number-more F (c .before .before .put-word .last .0) (l .out) (a .out .now) (a .xs .now) (a .at) (l .i) (omega arith)
+          (c .before .before .put-word .ensures
+          ∙ ap (λ (w : ℕ). take (a .at + numberBytes F * l .i) (l .out) ++ bytesOf (numberBytes F) w) (c .before .before .before .to-bits .ensures))
+          (l .inv .2),
     )
 
 returns : tie.Need-returns Inv-loop μ-loop

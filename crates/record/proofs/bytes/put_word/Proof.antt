@@ -14,7 +14,9 @@ use Rattle.record.proofs.bytes.put_word.Statement.{statement}
 use Rattle.record.proofs.bytes.put_word.Tie as tie
 
 abbrev Inv-loop : tie.InvT-loop
-Inv-loop out₀ at n rest₀ i₀ out rest i = (i ≤ numberBytes F) × (length out ≡ length out₀) × (take (at + i) out ++ bytesOf (numberBytes F - i) rest ≡ take at out₀ ++ bytesOf (numberBytes F) n)
+Inv-loop out₀ at n rest₀ i₀ out rest i =
+    (i ≤ numberBytes F) × (length out ≡ length out₀)
+    × (take (at + i) out ++ bytesOf (numberBytes F - i) rest ≡ take at out₀ ++ bytesOf (numberBytes F) n)
 
 abbrev μ-loop : tie.MeasureT-loop
 μ-loop out₀ at n rest₀ i₀ out rest i = numberBytes F - i
@@ -25,8 +27,12 @@ loop-holds c = let a = c .args in (omega arith, refl, ap (λ (k : ℕ). take k (
 loop-again : tie.Need-loop-again Inv-loop μ-loop
 loop-again c =
     let l = c .before .loop in
-    let a = c .before .before .args in
-    (omega arith, simp length-set (omega arith), bytes-more (l .out) _ (a .at + l .i) (a .at + (l .i + 1)) (numberBytes F - l .i) (numberBytes F - (l .i + 1)) (l .rest) (omega arith) (omega arith) (omega arith) (l .inv .2))
+    let a = c .before .before .args in (
+      omega arith,
+      simp length-set (omega arith),
+      bytes-more (l .out) _ (a .at + l .i) (a .at + (l .i + 1)) (numberBytes F - l .i) (numberBytes F - (l .i + 1)) (l .rest)
+          (omega arith) (omega arith) (omega arith) (l .inv .2),
+    )
 
 returns : tie.Need-returns Inv-loop μ-loop
 unfolding bytesOf

@@ -22,17 +22,26 @@ unfolding wordOf
 loop-holds c = (omega arith, refl, omega arith)
 
 mul-w : tie.Need-mul-w Inv-loop μ-loop
-mul-w c = let l = c .before .loop in omega (arith, word-fits _ _ (omega arith) (word-grows (numberBytes F - l .i) (numberBytes F + 1 - l .i) (l .w) 0 (omega arith) (l .inv .2) (omega arith)))
+mul-w c =
+    let l = c .before .loop in
+    omega (arith, word-fits _ _ (omega arith) (word-grows (numberBytes F - l .i) (numberBytes F + 1 - l .i) (l .w) 0 (omega arith) (l .inv .2) (omega arith)))
 
 add-w : tie.Need-add-w Inv-loop μ-loop
-add-w c = let l = c .before .before .before .loop in omega (arith, word-fits _ _ (omega arith) (word-grows (numberBytes F - l .i) (numberBytes F + 1 - l .i) (l .w) (c .wide .result) (omega arith) (l .inv .2) (c .wide .ensures .1)))
+add-w c =
+    let l = c .before .before .before .loop in
+    omega (
+      arith,
+      word-fits _ _ (omega arith)
+          (word-grows (numberBytes F - l .i) (numberBytes F + 1 - l .i) (l .w) (c .wide .result) (omega arith) (l .inv .2) (c .wide .ensures .1)),
+    )
 
 loop-again : tie.Need-loop-again Inv-loop μ-loop
 loop-again c =
     let l = c .before .before .before .loop in
     let a = c .before .before .before .before .before .args in (
       omega arith,
-      word-more (a .s .now) (a .at + (l .i - 1)) (a .at + l .i) (numberBytes F - l .i) (numberBytes F - (l .i - 1)) (l .w) (c .wide .result) (omega arith) (omega arith) (omega arith) (c .wide .ensures .0) (l .inv .1),
+      word-more (a .s .now) (a .at + (l .i - 1)) (a .at + l .i) (numberBytes F - l .i) (numberBytes F - (l .i - 1)) (l .w) (c .wide .result)
+          (omega arith) (omega arith) (omega arith) (c .wide .ensures .0) (l .inv .1),
       word-grows (numberBytes F - l .i) (numberBytes F - (l .i - 1)) (l .w) (c .wide .result) (omega arith) (l .inv .2) (c .wide .ensures .1),
     )
 
@@ -41,7 +50,9 @@ returns c =
     let l = c .before .loop in
     let a = c .before .before .before .args in
     let e : l .i ≡ 0 = omega arith in
-    l .inv .1 ∙ ap (λ (k : ℕ). wordOf (part (a .at + k) (numberBytes F - k) (a .s .now))) e ∙ ap (λ (k : ℕ). wordOf (part k (numberBytes F) (a .s .now))) (add-zero (a .at))
+    l .inv .1
+    ∙ ap (λ (k : ℕ). wordOf (part (a .at + k) (numberBytes F - k) (a .s .now))) e
+    ∙ ap (λ (k : ℕ). wordOf (part k (numberBytes F) (a .s .now))) (add-zero (a .at))
 
 pub word-at-spec : {M : Type 1} → statement M
 word-at-spec =

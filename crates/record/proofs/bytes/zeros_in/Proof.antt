@@ -30,7 +30,10 @@ returns c =
     let l = c .before .loop in
     let a = c .before .before .args in
     let e : l .i ≡ a .e = omega arith in
-    sym (l .inv .1 ∙ ap (λ (k : ℕ). eqb (l .any) 0 && zeroFrom k (a .e) (a .s .now)) e ∙ ap (λ (t : Bool). eqb (l .any) 0 && t) (none-left (a .s .now) (a .e)) ∙ and-true (eqb (l .any) 0))
+    sym (l .inv .1
+    ∙ ap (λ (k : ℕ). eqb (l .any) 0 && zeroFrom k (a .e) (a .s .now)) e
+    ∙ ap (λ (t : Bool). eqb (l .any) 0 && t) (none-left (a .s .now) (a .e))
+    ∙ and-true (eqb (l .any) 0))
 
 pub zeros-in-spec : {M : Type 1} → statement M
 zeros-in-spec = tie.close (tie.spec Inv-loop μ-loop loop-holds (λ c. search needs) (λ c. search needs) (λ c. search needs) loop-again returns)

@@ -18,15 +18,20 @@ unfolding judgedOf
 returns-2 c =
     let numbers = c .before .before .before in
     let s = numbers .before .before .before .before .before .before .args .s .now in
-    let used : usedFinite F (kindOf s) s ≡ true = sym (used-first F (kindOf s) s) ∙ (cc (c .before .before .used-finite .ensures, c .before .if2 .taken, numbers .numbers3 .ensures, numbers .before .numbers9 .ensures)) in
-    rw (← numbers .before .before .before .before .form-of .ensures, eq-eqb _ 0 (numbers .before .before .before .if1 .left), used) (rw (← numbers .before .numbers9 .ensures, ← numbers .numbers3 .ensures) (c .work .ensures))
+    let used : usedFinite F (kindOf s) s ≡ true =
+    sym (used-first F (kindOf s) s)
+    ∙ (cc (c .before .before .used-finite .ensures, c .before .if2 .taken, numbers .numbers3 .ensures, numbers .before .numbers9 .ensures)) in
+    rw (← numbers .before .before .before .before .form-of .ensures, eq-eqb _ 0 (numbers .before .before .before .if1 .left), used)
+    (rw (← numbers .before .numbers9 .ensures, ← numbers .numbers3 .ensures) (c .work .ensures))
 
 returns-3 : tie.Need-returns-3
 unfolding judgedOf
 returns-3 c =
     let numbers = c .before .before .before in
     let s = numbers .before .before .before .before .before .before .args .s .now in
-    let used : usedFinite F (kindOf s) s ≡ false = sym (used-first F (kindOf s) s) ∙ (cc (c .before .before .used-finite .ensures, c .before .if2 .left, numbers .numbers3 .ensures, numbers .before .numbers9 .ensures)) in
+    let used : usedFinite F (kindOf s) s ≡ false =
+    sym (used-first F (kindOf s) s)
+    ∙ (cc (c .before .before .used-finite .ensures, c .before .if2 .left, numbers .numbers3 .ensures, numbers .before .numbers9 .ensures)) in
     rw (← numbers .before .before .before .before .form-of .ensures, eq-eqb _ 0 (numbers .before .before .before .if1 .left), used) (c .refused2 .ensures)
 
 pub judged-spec : {M : Type 1} → statement M

@@ -40,9 +40,12 @@ returns : tie.Need-returns
 returns c =
     let three = c .before .before .before .before .before in
     let a = three .before .before .before .args in
-    let reserved : zeroFrom wayAt nineAt (a .s .now) ≡ true = sym (c .before .before .before .before .zeros-in .ensures) ∙ c .before .before .before .if1 .taken in
+    let reserved : zeroFrom wayAt nineAt (a .s .now) ≡ true =
+    sym (c .before .before .before .before .zeros-in .ensures) ∙ c .before .before .before .if1 .taken in
     let nine : zeroFrom (placeOf F nineAt (nineUsed (a .kind))) (threeAt F) (a .s .now) ≡ true =
-    ap (λ (n : ℕ). zeroFrom (placeOf F nineAt n) (threeAt F) (a .s .now)) (sym (three .before .nine-used .ensures)) ∙ sym (c .before .before .zeros-in2 .ensures) ∙ c .before .if2 .taken in
+    ap (λ (n : ℕ). zeroFrom (placeOf F nineAt n) (threeAt F) (a .s .now)) (sym (three .before .nine-used .ensures))
+    ∙ sym (c .before .before .zeros-in2 .ensures)
+    ∙ c .before .if2 .taken in
     rw (reserved, nine) (c .zeros-in3 .ensures ∙ ap (λ (n : ℕ). zeroFrom (placeOf F (threeAt F) n) (requestSize F) (a .s .now)) (three .three-used .ensures))
 
 returns-2 : tie.Need-returns-2
@@ -51,7 +54,9 @@ returns-2 c =
     let a = three .before .before .before .args in
     let reserved : zeroFrom wayAt nineAt (a .s .now) ≡ true = sym (c .before .before .before .zeros-in .ensures) ∙ c .before .before .if1 .taken in
     let nine : zeroFrom (placeOf F nineAt (nineUsed (a .kind))) (threeAt F) (a .s .now) ≡ false =
-    ap (λ (n : ℕ). zeroFrom (placeOf F nineAt n) (threeAt F) (a .s .now)) (sym (three .before .nine-used .ensures)) ∙ sym (c .before .zeros-in2 .ensures) ∙ c .if2 .left in
+    ap (λ (n : ℕ). zeroFrom (placeOf F nineAt n) (threeAt F) (a .s .now)) (sym (three .before .nine-used .ensures))
+    ∙ sym (c .before .zeros-in2 .ensures)
+    ∙ c .if2 .left in
     rw (reserved, nine)
 
 returns-3 : tie.Need-returns-3

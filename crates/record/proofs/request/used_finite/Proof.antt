@@ -21,14 +21,18 @@ slice-aggregate-first-finite-2 : tie.Need-slice-aggregate-first-finite-2
 slice-aggregate-first-finite-2 c = search needs
 
 first-finite-requires-2 : tie.Need-first-finite-requires-2
-first-finite-requires-2 c κs = let h = three-most (c .before .before .before .before .before .before .args .kind) in omega (arith, slice-aggregate-first-finite-2 (c .before), c .three-used .ensures)
+first-finite-requires-2 c κs =
+    let h = three-most (c .before .before .before .before .before .before .args .kind) in
+    omega (arith, slice-aggregate-first-finite-2 (c .before), c .three-used .ensures)
 
 returns : tie.Need-returns
 returns c =
     let used = c .before .before .before .before .before in
     let a = used .before .before .args in
     let nine : allFinite (take (nineUsed (a .kind)) (a .t2)) ≡ true =
-    ap (λ (n : ℕ). allFinite (take n (a .t2))) (sym (used .nine-used .ensures)) ∙ sym (c .before .before .before .before .first-finite .ensures) ∙ c .before .before .before .if1 .taken in
+    ap (λ (n : ℕ). allFinite (take n (a .t2))) (sym (used .nine-used .ensures))
+    ∙ sym (c .before .before .before .before .first-finite .ensures)
+    ∙ c .before .before .before .if1 .taken in
     rw nine (c .first-finite2 .ensures ∙ ap (λ (n : ℕ). allFinite (take n (a .t3))) (c .before .three-used .ensures))
 
 returns-2 : tie.Need-returns-2

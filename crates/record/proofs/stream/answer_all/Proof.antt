@@ -12,7 +12,11 @@ use Rattle.record.proofs.stream.answer_all.Statement.{statement}
 use Rattle.record.proofs.stream.answer_all.Tie as tie
 
 abbrev Inv-loop : tie.InvT-loop
-Inv-loop requests answers₀ n i₀ answers i = (i ≤ n) × (length answers ≡ length answers₀) × (take (answerSize F * i) answers ≡ answersOf F i requests) × (drop (answerSize F * i) answers ≡ drop (answerSize F * i) answers₀)
+Inv-loop requests answers₀ n i₀ answers i =
+    (i ≤ n)
+    × (length answers ≡ length answers₀)
+    × (take (answerSize F * i) answers ≡ answersOf F i requests)
+    × (drop (answerSize F * i) answers ≡ drop (answerSize F * i) answers₀)
 
 abbrev μ-loop : tie.MeasureT-loop
 μ-loop requests answers₀ n i₀ answers i = n - i

@@ -24,7 +24,8 @@ array-write-d c = found-square 2 _ _ (at-place (c .before .p .given .1) (c .befo
 returns-2 : tie.Need-returns-2
 returns-2 c =
     let a = c .before .before .before .before .before .args in
-    ap mat2Answer (used 2 _ _ _ (λ (i : ℕ). set (a .self .«data») i (a .x)) _ (at-place (c .before .p .given .1) (c .before .before .before .square-place .ensures)))
+    ap mat2Answer (used 2 _ _ _ (λ (i : ℕ). set (a .self .«data») i (a .x)) _
+    (at-place (c .before .p .given .1) (c .before .before .before .square-place .ensures)))
 
 pub index-mut-spec : {M : Type 1} → statement M
 index-mut-spec =

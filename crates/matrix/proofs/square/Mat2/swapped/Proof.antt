@@ -17,7 +17,8 @@ returns c =
 returns-2 : tie.Need-returns-2
 returns-2 c =
     let a = c .before .before .args in
-    c .swap12 .ensures ∙ ap mat2 (sym (exchange-ordered 2 (a .i) (a .j) 0 1 (a .self .«data») (λ l. (omega arith, omega arith)) (λ l. (omega arith, omega arith))))
+    c .swap12 .ensures
+    ∙ ap mat2 (sym (exchange-ordered 2 (a .i) (a .j) 0 1 (a .self .«data») (λ l. (omega arith, omega arith)) (λ l. (omega arith, omega arith))))
 
 pub swapped-spec : {M : Type 1} → statement M
 swapped-spec = tie.close (tie.spec returns (λ c κs. search needs) returns-2)

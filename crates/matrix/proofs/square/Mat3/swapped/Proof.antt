@@ -17,17 +17,20 @@ returns c =
 returns-2 : tie.Need-returns-2
 returns-2 c =
     let a = c .before .before .before .args in
-    c .swap12 .ensures ∙ ap mat3 (sym (exchange-ordered 3 (a .i) (a .j) 0 1 (a .self .«data») (λ l. (omega arith, omega arith)) (λ l. (omega arith, omega arith))))
+    c .swap12 .ensures
+    ∙ ap mat3 (sym (exchange-ordered 3 (a .i) (a .j) 0 1 (a .self .«data») (λ l. (omega arith, omega arith)) (λ l. (omega arith, omega arith))))
 
 returns-3 : tie.Need-returns-3
 returns-3 c =
     let a = c .before .before .before .before .args in
-    c .swap13 .ensures ∙ ap mat3 (sym (exchange-ordered 3 (a .i) (a .j) 0 2 (a .self .«data») (λ l. (omega arith, omega arith)) (λ l. (omega arith, omega arith))))
+    c .swap13 .ensures
+    ∙ ap mat3 (sym (exchange-ordered 3 (a .i) (a .j) 0 2 (a .self .«data») (λ l. (omega arith, omega arith)) (λ l. (omega arith, omega arith))))
 
 returns-4 : tie.Need-returns-4
 returns-4 c =
     let a = c .before .before .before .before .args in
-    c .swap23 .ensures ∙ ap mat3 (sym (exchange-ordered 3 (a .i) (a .j) 1 2 (a .self .«data») (λ l. (omega arith, omega arith)) (λ l. (omega arith, omega arith))))
+    c .swap23 .ensures
+    ∙ ap mat3 (sym (exchange-ordered 3 (a .i) (a .j) 1 2 (a .self .«data») (λ l. (omega arith, omega arith)) (λ l. (omega arith, omega arith))))
 
 pub swapped-spec : {M : Type 1} → statement M
 swapped-spec =
