@@ -10,7 +10,7 @@ use lib.ListN.{length}
 use lib.Ieee.{Float, Format, nan, lt, le}
 use Rattle.float.specs.Sign.{finite, allFinite}
 use Rattle.float.proofs.Choice.{by-test}
-use Rattle.float.proofs.Finite.{both-true, at-finite, all-finite-append}
+use Rattle.float.proofs.Finite.{at-finite, parts-finite}
 use Rattle.float.proofs.Keys.{le-key, keyed}
 use Rattle.jacobi.specs.Order.{Ranked, ordered}
 use Rattle.jacobi.specs.declared.rotation.Rotation.{Rotation}
@@ -19,7 +19,8 @@ use Rattle.eigen.specs.Pairs.{entry}
 use Rattle.eigen.specs.Ascends.{Ascends}
 use Rattle.eigen.specs.Eigen3x3.{lastOf, bareLastOf, diagonal, sort3Of, rankedOf, ValuesAnswer, refusedValues, valuesOf, bareEndOf, eigenOf, eigvalsOf}
 use Rattle.eigen.specs.Eigen2x2.{notBelow, axesOf, solved2, Eigen2Answer, refused2, numbers2Of, answer2Of, end2Of, eigen2Of, Values2Answer, refusedValues2, values2Of, valuesEnd2Of, eigvals2Of}
-use Rattle.eigen.proofs.Answered.{accepted, answered}
+use Rattle.float.proofs.Judged.{accepted}
+use Rattle.eigen.proofs.Answered.{answered}
 use Rattle.eigen.proofs.Bare.{values-alone, ranked-values}
 use Rattle.eigen.proofs.Full.{last-filled, bare-filled}
 use Rattle.eigen.proofs.Reversed.Order.{axis, axes, ranked-axes, sorted-ascends}
@@ -44,7 +45,7 @@ module _ (f : Format) (a : List Float) (n : length a ≡ 6) where
   eigen3-ascends e =
       let s = lastOf f a in
       let g = answered f a e in
-      let m = both-true _ _ (sym (all-finite-append (s .matrix) (rankedOf s .carried)) ∙ g .numbers) .0 in
+      let m = parts-finite (s .matrix) (rankedOf s .carried) (g .numbers) .0 in
       rw (g .answer, ranked-values s) (diagonal-ascends (s .matrix) (last-filled f a n .0) m)
 
   pub eigvals3-ascends : eigvalsOf f a .code ≡ 0 → Ascends 3 (eigvalsOf f a .values)
@@ -89,7 +90,7 @@ module _ (f : Format) (a : List Float) where
   eigen2-ascends e =
       let x = solved2 f a in
       let g = accepted (λ (r : Eigen2Answer). r .code) (refused2 f) (λ k. refl) a (numbers2Of x) (answer2Of x) e in
-      rw (g .answer) (solved-ascends f a (both-true _ _ (sym (all-finite-append (x .values) (x .carried)) ∙ g .numbers) .0))
+      rw (g .answer) (solved-ascends f a (parts-finite (x .values) (x .carried) (g .numbers) .0))
 
   pub eigvals2-ascends : eigvals2Of f a .code ≡ 0 → Ascends 2 (eigvals2Of f a .values)
   unfolding eigvals2Of valuesEnd2Of

@@ -1,22 +1,18 @@
 -- What the four calls owe: each is a judged call, so its code is exactly that of its tests; and its lists are full, of numbers that the tests or their places in a
 -- tested matrix say to be finite.
-use mathlib.Core.Path.{_≡_, refl, sym, _∙_}
-use mathlib.Core.Bool.{true}
-use mathlib.Core.List.{List, _++_}
+use mathlib.Core.Path.{_≡_, refl}
+use mathlib.Core.List.{List}
 use lib.ListN.{length}
 use lib.Ieee.{Float, Format}
 use Rattle.float.specs.Choice.{pick}
 use Rattle.float.specs.Sign.{allFinite}
-use Rattle.float.proofs.Finite.{both-true, all-finite-append}
+use Rattle.float.proofs.Finite.{parts-finite}
 use Rattle.matrix.specs.Owed.{Owed}
 use Rattle.matrix.proofs.Owed.{call-code, call-owed}
 use Rattle.eigen.specs.Eigen3x3.{lastOf, bareLastOf, rankedOf, EigenAnswer, refusedEigen, numbersOf, answerOf, endOf, eigenOf, ValuesAnswer, refusedValues, valuesOf, bareEndOf, eigvalsOf}
 use Rattle.eigen.specs.Eigen2x2.{solved2, Eigen2Answer, refused2, numbers2Of, answer2Of, end2Of, eigen2Of, Values2Answer, refusedValues2, values2Of, valuesEnd2Of, eigvals2Of}
 use Rattle.eigen.specs.Owed.{eigenParts, valuesParts, eigen2Parts, values2Parts}
 use Rattle.eigen.proofs.Full.{last-filled, bare-filled, ranked-good, sort-good, solved-full}
-
-parts-finite : (xs ys : List Float) → allFinite (xs ++ ys) ≡ true → (allFinite xs ≡ true) × (allFinite ys ≡ true)
-parts-finite xs ys e = both-true (allFinite xs) (allFinite ys) (sym (all-finite-append xs ys) ∙ e)
 
 module _ (f : Format) (a : List Float) where
   -- ---- 3x3

@@ -13,7 +13,7 @@ use lib.Ieee.{Float, Format}
 use Rattle.float.specs.Choice.{pick}
 use Rattle.float.specs.Sign.{allFinite}
 use Rattle.float.specs.Judged.{judged}
-use Rattle.float.proofs.Finite.{both-true, at-finite, all-finite-append}
+use Rattle.float.proofs.Finite.{at-finite, all-finite-append, parts-finite}
 use Rattle.float.proofs.Negation.{negation}
 use Rattle.float.proofs.Keys.{Keyed, keyed}
 use Rattle.jacobi.specs.declared.made.Made.{Made}
@@ -108,7 +108,7 @@ from-related f x y r =
     both-judged Reversed (refusedEigen f) 5 x y _ _ (all-finite-same r)
     (λ _. both-judged Reversed (refusedEigen f) 7 (numbersOf s) (numbersOf q) (answerOf f s) (answerOf f q)
     (lists-finite (s .matrix) (q .matrix) (rankedOf s .carried) (rankedOf q .carried) (all-finite-same (a .matrices)) (e .vectors))
-    (λ n. e .answers (both-true _ _ (sym (all-finite-append (s .matrix) (rankedOf s .carried)) ∙ n) .0))
+    (λ n. e .answers (parts-finite (s .matrix) (rankedOf s .carried) n .0))
     (refused-reversed f 7 (omega arith)))
     (refused-reversed f 5 (omega arith))
 
