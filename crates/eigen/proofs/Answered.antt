@@ -3,8 +3,10 @@ use mathlib.Core.Path.{_≡_, refl}
 use mathlib.Core.List.{List}
 use lib.Ieee.{Float, Format}
 use Rattle.float.proofs.Judged.{Accepted, accepted}
-use Rattle.eigen.specs.Eigen3x3.{lastOf, bareLastOf, EigenAnswer, refusedEigen, numbersOf, answerOf, endOf, eigenOf, ValuesAnswer, refusedValues, valuesOf, bareEndOf, eigvalsOf}
-use Rattle.eigen.specs.Eigen2x2.{solved2, Eigen2Answer, refused2, numbers2Of, answer2Of, end2Of, eigen2Of, Values2Answer, refusedValues2, values2Of, valuesEnd2Of, eigvals2Of}
+use Rattle.eigen.specs.Eigen3x3.{lastOf, bareLastOf, EigenAnswer, refusedEigen, numbersOf, answerOf, endOf}
+use Rattle.eigen.specs.Eigen3x3.{eigenOf, ValuesAnswer, refusedValues, valuesOf, bareEndOf, eigvalsOf}
+use Rattle.eigen.specs.Eigen2x2.{solved2, Eigen2Answer, refused2, numbers2Of, answer2Of, end2Of}
+use Rattle.eigen.specs.Eigen2x2.{eigen2Of, Values2Answer, refusedValues2, values2Of, valuesEnd2Of, eigvals2Of}
 
 module _ (f : Format) (a : List Float) where
   pub answered : eigenOf f a .code ≡ 0 → Accepted a (numbersOf (lastOf f a)) (answerOf f (lastOf f a)) (eigenOf f a)
