@@ -13,7 +13,7 @@ use Rattle.float.specs.Exactly.{Exactly}
 use Rattle.float.specs.Judged.{judgedCall}
 use Rattle.float.specs.Sign.{allFinite}
 use Rattle.float.proofs.Choice.{by-eqb}
-use Rattle.float.proofs.Finite.{both-true, all-finite-append}
+use Rattle.float.proofs.Finite.{parts-finite}
 use Rattle.float.proofs.Judged.{by-call}
 use Rattle.matrix.specs.Answer.{zeros}
 use Rattle.matrix.specs.Owed.{Part, AllFull, Owed}
@@ -79,7 +79,7 @@ module _ {f : Format} {l : List Float} {pivots : List Float} {r : FactorAnswer} 
       (by-eqb (λ (q : SolvedAnswer). (q .code ≡ 0 → ⊥) → q ≡ refusedSolved f n (q .pivot) (q .code)) (r .code) 0 _ _ (λ _ c. absurd (c refl)) (λ _ _. refl))
       (by-eqb (λ (q : SolvedAnswer). q .code ≡ 0 → allFinite (r .factor ++ x) ≡ true → AllFull (solvedParts n q)) (r .code) 0 _ _
       (λ _ _ h.
-      let both = both-true (allFinite (r .factor)) (allFinite x) (sym (all-finite-append (r .factor) x) ∙ h) in
+      let both = parts-finite (r .factor) x h in
       (known .full sized, both .0, (e, both .1, tt)))
       (λ m c. absurd (m c)))
 

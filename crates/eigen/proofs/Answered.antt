@@ -1,31 +1,26 @@
--- An answer with code 0 is the one that was worked out, of finite numbers: every other way through a judged call leaves another code.
+-- An answer with code 0 is that of the last state, or of the two axes, of finite numbers: a judged call leaves another code on every other way.
 use mathlib.Core.Path.{_≡_, refl}
-use mathlib.Core.Bool.{true}
 use mathlib.Core.List.{List}
-use Prim.Native.Nat.{ℕ}
-use native.Mathlib.Omega.{arith}
 use lib.Ieee.{Float, Format}
-use Rattle.float.specs.Sign.{allFinite}
-use Rattle.float.specs.Judged.{judgedCall}
-use Rattle.float.proofs.Judged.{by-call}
-use Rattle.eigen.specs.Eigen3x3.{lastOf, EigenAnswer, refusedEigen, numbersOf, answerOf, endOf, eigenOf}
+use Rattle.float.proofs.Judged.{Accepted, accepted}
+use Rattle.eigen.specs.Eigen3x3.{lastOf, bareLastOf, EigenAnswer, refusedEigen, numbersOf, answerOf, endOf}
+use Rattle.eigen.specs.Eigen3x3.{eigenOf, ValuesAnswer, refusedValues, valuesOf, bareEndOf, eigvalsOf}
+use Rattle.eigen.specs.Eigen2x2.{solved2, Eigen2Answer, refused2, numbers2Of, answer2Of, end2Of}
+use Rattle.eigen.specs.Eigen2x2.{eigen2Of, Values2Answer, refusedValues2, values2Of, valuesEnd2Of, eigvals2Of}
 
--- that q is r, and both lists are of finite numbers
-pub record Accepted {A : Type 0} (used made : List Float) (r q : A) : Type 0 where
-  pub input : allFinite used ≡ true
-  pub numbers : allFinite made ≡ true
-  pub answer : q ≡ r
+module _ (f : Format) (a : List Float) where
+  pub answered : eigenOf f a .code ≡ 0 → Accepted a (numbersOf (lastOf f a)) (answerOf f (lastOf f a)) (eigenOf f a)
+  unfolding eigenOf endOf
+  answered = accepted (λ (r : EigenAnswer). r .code) (refusedEigen f) (λ k. refl) a (numbersOf (lastOf f a)) (answerOf f (lastOf f a))
 
-pub accepted : {A : Type 0} (code : A → ℕ) (refuse : ℕ → A) → ((k : ℕ) → code (refuse k) ≡ k) → (used made : List Float) (r : A)
-    → code (judgedCall refuse used made r) ≡ 0 → Accepted used made r (judgedCall refuse used made r)
-accepted code refuse own used made r =
-    let five = own 5 in
-    let seven = own 7 in
-    by-call refuse used made r (λ q. code q ≡ 0 → Accepted used made r q)
-    (λ i n _. record { input = i; numbers = n; answer = refl })
-    (λ i n e. absurd (omega arith))
-    (λ i e. absurd (omega arith))
+  pub answered-values : eigvalsOf f a .code ≡ 0 → Accepted a (bareLastOf f a .matrix) (valuesOf f (bareLastOf f a)) (eigvalsOf f a)
+  unfolding eigvalsOf bareEndOf
+  answered-values = accepted (λ (r : ValuesAnswer). r .code) (refusedValues f) (λ k. refl) a (bareLastOf f a .matrix) (valuesOf f (bareLastOf f a))
 
-pub answered : (f : Format) (a : List Float) → eigenOf f a .code ≡ 0 → Accepted a (numbersOf (lastOf f a)) (answerOf f (lastOf f a)) (eigenOf f a)
-unfolding eigenOf endOf
-answered f a = accepted (λ (r : EigenAnswer). r .code) (refusedEigen f) (λ k. refl) a (numbersOf (lastOf f a)) (answerOf f (lastOf f a))
+  pub answered2 : eigen2Of f a .code ≡ 0 → Accepted a (numbers2Of (solved2 f a)) (answer2Of (solved2 f a)) (eigen2Of f a)
+  unfolding eigen2Of end2Of
+  answered2 = accepted (λ (r : Eigen2Answer). r .code) (refused2 f) (λ k. refl) a (numbers2Of (solved2 f a)) (answer2Of (solved2 f a))
+
+  pub answered-values2 : eigvals2Of f a .code ≡ 0 → Accepted a (solved2 f a .values) (values2Of (solved2 f a .values)) (eigvals2Of f a)
+  unfolding eigvals2Of valuesEnd2Of
+  answered-values2 = accepted (λ (r : Values2Answer). r .code) (refusedValues2 f) (λ k. refl) a (solved2 f a .values) (values2Of (solved2 f a .values))

@@ -11,10 +11,12 @@ use Rattle.float.specs.Judged.{judged, judgedCall}
 use Rattle.float.proofs.Finite.{append-passes, append-fails}
 use Rattle.matrix.specs.Square.{exchangeOf}
 use Rattle.matrix.specs.declared.symmetric.Sym3.{Sym3}
-use Rattle.jacobi.specs.Order.{Ranked, ascending}
+use Rattle.jacobi.specs.Order.{ascending}
 use Rattle.jacobi.proofs.Run.{keeps}
-use Rattle.jacobi.proofs.Compared.{ordered3-mapped}
-use Rattle.eigen.specs.Eigen3x3.{State, BareState, settledOf, stepOf, bareStepOf, runOf, bareRunOf, startOf, lastOf, diagonal, nothingSwapped, rankOf, sort3Of, rankedOf, EigenAnswer, answerOf, endOf, eigenOf, ValuesAnswer, eigvals3, refusedValues, bareEndOf, eigvalsOf}
+use Rattle.jacobi.proofs.Placed.{values-alone}
+use Rattle.eigen.specs.Eigen3x3.{State, BareState, settledOf, stepOf, bareStepOf, runOf, bareRunOf, startOf, lastOf, diagonal, alone, nothingSwapped}
+use Rattle.eigen.specs.Eigen3x3.{sort3Of, rankedOf, EigenAnswer, answerOf, endOf, eigenOf, ValuesAnswer, eigvals3, refusedValues, bareEndOf, eigvalsOf}
+use Rattle.eigen.specs.Ordered.{diagonalAxes}
 use Rattle.eigen.specs.Bare.{without, withoutVectors, VectorsLost, SameButVectors}
 use Rattle.eigen.specs.declared.eigen3x3.Eigen3.{Eigen3}
 use Rattle.eigen.specs.declared.eigen3x3.EigVals3.{EigVals3}
@@ -33,12 +35,9 @@ same-run f k s =
 
 -- ---- the order
 
-pub values-alone : (w : Ranked (List Float)) → rankOf w .values ≡ sort3Of (w .values)
-values-alone w = ap (λ (x : Ranked (Unit {0})). x .values) (ordered3-mapped 3 ascending (exchangeOf 3) nothingSwapped (λ v. tt) (λ i j v. refl) w)
-
-pub ranked-values : (s : State) → rankedOf s .values ≡ sort3Of (diagonal (s .matrix))
+ranked-values : (s : State) → rankedOf s .values ≡ sort3Of (diagonal (s .matrix))
 unfolding rankedOf
-ranked-values s = values-alone (record { values = diagonal (s .matrix); carried = s .vectors })
+ranked-values s = values-alone 3 ascending (exchangeOf 3) nothingSwapped (diagonalAxes s) (alone (diagonal (s .matrix))) refl
 
 -- ---- the answer
 

@@ -2,9 +2,10 @@ pub mod Rounds
 pub mod Answered
 pub mod Counted
 pub mod Bare
+pub mod Moved
 pub mod Full
 pub mod Settled
 pub mod Owed
 pub mod Reversed
-pub mod Ascends
+pub mod Ordered
 pub mod Unique

@@ -1,22 +1,20 @@
 -- What the four calls owe: each is a judged call, so its code is exactly that of its tests; and its lists are full, of numbers that the tests or their places in a
 -- tested matrix say to be finite.
-use mathlib.Core.Path.{_≡_, refl, sym, _∙_}
-use mathlib.Core.Bool.{true}
-use mathlib.Core.List.{List, _++_}
+use mathlib.Core.Path.{_≡_, refl}
+use mathlib.Core.List.{List}
 use lib.ListN.{length}
 use lib.Ieee.{Float, Format}
 use Rattle.float.specs.Choice.{pick}
 use Rattle.float.specs.Sign.{allFinite}
-use Rattle.float.proofs.Finite.{both-true, all-finite-append}
+use Rattle.float.proofs.Finite.{parts-finite}
 use Rattle.matrix.specs.Owed.{Owed}
 use Rattle.matrix.proofs.Owed.{call-code, call-owed}
-use Rattle.eigen.specs.Eigen3x3.{lastOf, bareLastOf, rankedOf, EigenAnswer, refusedEigen, numbersOf, answerOf, endOf, eigenOf, ValuesAnswer, refusedValues, valuesOf, bareEndOf, eigvalsOf}
-use Rattle.eigen.specs.Eigen2x2.{solved2, Eigen2Answer, refused2, numbers2Of, answer2Of, end2Of, eigen2Of, Values2Answer, refusedValues2, values2Of, valuesEnd2Of, eigvals2Of}
+use Rattle.eigen.specs.Eigen3x3.{lastOf, bareLastOf, diagonal, rankedOf, EigenAnswer, refusedEigen, numbersOf, answerOf}
+use Rattle.eigen.specs.Eigen3x3.{endOf, eigenOf, ValuesAnswer, refusedValues, valuesOf, bareEndOf, eigvalsOf}
+use Rattle.eigen.specs.Eigen2x2.{solved2, Eigen2Answer, refused2, numbers2Of, answer2Of, end2Of}
+use Rattle.eigen.specs.Eigen2x2.{eigen2Of, Values2Answer, refusedValues2, values2Of, valuesEnd2Of, eigvals2Of}
 use Rattle.eigen.specs.Owed.{eigenParts, valuesParts, eigen2Parts, values2Parts}
-use Rattle.eigen.proofs.Full.{last-filled, bare-filled, ranked-good, sort-good, solved-full}
-
-parts-finite : (xs ys : List Float) → allFinite (xs ++ ys) ≡ true → (allFinite xs ≡ true) × (allFinite ys ≡ true)
-parts-finite xs ys e = both-true (allFinite xs) (allFinite ys) (sym (all-finite-append xs ys) ∙ e)
+use Rattle.eigen.proofs.Full.{last-filled, bare-filled, ranked-full, ranked-finite, sort-full, sort-finite, solved-full}
 
 module _ (f : Format) (a : List Float) where
   -- ---- 3x3
@@ -33,8 +31,8 @@ module _ (f : Format) (a : List Float) where
       call-owed (λ (r : EigenAnswer). r .code) (refusedEigen f) (λ k. refl) a (numbersOf s) (answerOf f s) eigenParts refl
       (λ _ e.
       let h = parts-finite (s .matrix) (rankedOf s .carried) e in
-      let g = ranked-good s full (h .0) in
-      (g .0, g .1, (g .2, h .1, (full .0, h .0, tt))))
+      let g = ranked-full s full in
+      (g .0, ranked-finite s full (h .0), (g .1, h .1, (full .0, h .0, tt))))
 
   pub eigvals3-code : eigvalsOf f a .code ≡ pick (allFinite a) (pick (allFinite (bareLastOf f a .matrix)) 0 7) 5
   unfolding eigvalsOf bareEndOf
@@ -46,7 +44,7 @@ module _ (f : Format) (a : List Float) where
       let s = bareLastOf f a in
       let full = bare-filled f a n in
       call-owed (λ (r : ValuesAnswer). r .code) (refusedValues f) (λ k. refl) a (s .matrix) (valuesOf f s) valuesParts refl
-      (λ _ e. let g = sort-good (s .matrix) full e in (g .0, g .1, (full, e, tt)))
+      (λ _ e. (sort-full (diagonal (s .matrix)) refl, sort-finite (s .matrix) full e, (full, e, tt)))
 
   -- ---- 2x2
 

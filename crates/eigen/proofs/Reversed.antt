@@ -3,7 +3,7 @@
 pub mod Steps
 pub mod Order
 pub mod Wiring
-use mathlib.Core.Path.{_≡_, refl, sym, _∙_, subst₂}
+use mathlib.Core.Path.{_≡_, refl, sym, ap, _∙_}
 use mathlib.Core.Bool.{Bool, true, false}
 use mathlib.Core.List.{List, [], _∷_, _++_}
 use Prim.Native.Nat.{ℕ, _<_}
@@ -13,15 +13,19 @@ use lib.Ieee.{Float, Format}
 use Rattle.float.specs.Choice.{pick}
 use Rattle.float.specs.Sign.{allFinite}
 use Rattle.float.specs.Judged.{judged}
-use Rattle.float.proofs.Finite.{both-true, at-finite, all-finite-append}
+use Rattle.float.proofs.Finite.{all-finite-append, parts-finite}
 use Rattle.float.proofs.Negation.{negation}
-use Rattle.float.proofs.Keys.{Keyed, keyed}
-use Rattle.jacobi.specs.declared.made.Made.{Made}
-use Rattle.eigen.specs.Pairs.{entry}
-use Rattle.eigen.specs.Eigen3x3.{State, startOf, lastOf, rankedOf, refusedEigen, numbersOf, answerOf, endOf, eigenOf}
+use Rattle.float.proofs.Keys.{Within, keyed}
+use Rattle.matrix.specs.Places.{at}
+use Rattle.jacobi.proofs.Moves.{columns-finite}
+use Rattle.jacobi.proofs.Sorted.{below3}
+use Rattle.eigen.specs.Eigen3x3.{State, startOf, lastOf, diagonal, rankedOf, refusedEigen, numbersOf, answerOf, endOf, eigenOf}
 use Rattle.eigen.specs.Reversed.{negated, Reversed}
-use Rattle.eigen.proofs.Reversed.Steps.{Related, six, Nine, nine, Alike, all-finite-same, settled-same, run-alike}
-use Rattle.eigen.proofs.Reversed.Order.{axis, ranked-axes, sorted-finite, values-reversed, columns-reversed}
+use Rattle.eigen.specs.Ordered.{diagonalAxes}
+use Rattle.eigen.proofs.Moved.{same-permutation}
+use Rattle.eigen.proofs.Full.{Filled, last-filled, ranked-full, diagonal-finite}
+use Rattle.eigen.proofs.Reversed.Steps.{Related, six, diagonal-rel, all-finite-same, settled-same, Alike, run-alike}
+use Rattle.eigen.proofs.Reversed.Order.{values-reversed, columns-reversed}
 
 -- ---- a matrix of six numbers and its negation
 
@@ -61,57 +65,42 @@ record Ends (f : Format) (s q : State) : Type 0 where
   vectors : allFinite (rankedOf s .carried) ≡ allFinite (rankedOf q .carried)
   answers : allFinite (s .matrix) ≡ true → Reversed (answerOf f s) (answerOf f q)
 
-diagonal-keys : (x : List Float) → allFinite x ≡ true → length x ≡ 6 → Keyed (entry x 0 0) (entry x 1 1) (entry x 2 2)
-diagonal-keys x e h = keyed _ _ _ (at-finite x e 0 (omega arith)) (at-finite x e 2 (omega arith)) (at-finite x e 5 (omega arith))
-
-related-ends : (f : Format) {x y v : List Float} (m : Made) → Related true x y → Nine v
-    → Ends f (record { matrix = x; vectors = v; made = m }) (record { matrix = y; vectors = v; made = m })
+alike-ends : (f : Format) (s q : State) → Alike true s q → Filled s → Filled q → Ends f s q
 unfolding rankedOf
-related-ends f m (six {x11} {x12} {x22} {x13} {x23} {x33} {y11} {y12} {y22} {y13} {y23} {y33} r11 r12 r22 r13 r23 r33) (nine u1 u2 u3 v1 v2 v3 w1 w2 w3) =
-    let i = axis x11 u1 u2 u3 in
-    let j = axis x22 v1 v2 v3 in
-    let k = axis x33 w1 w2 w3 in
-    let i' = axis y11 u1 u2 u3 in
-    let j' = axis y22 v1 v2 v3 in
-    let k' = axis y33 w1 w2 w3 in
-    let r = six r11 r12 r22 r13 r23 r33 in
-    let o = ranked-axes i j k in
-    let o' = ranked-axes i' j' k' in
-    record {
-      vectors = rw (o, o') (sorted-finite i j k ∙ sym (sorted-finite i' j' k'));
-      answers = (λ e. let g = diagonal-keys _ e refl in rw (o, o') (record {
+alike-ends f s q r h k = record {
+  vectors =
+      sym (columns-finite (same-permutation s) (h .1) (ranked-full s h .1))
+      ∙ ap allFinite (r .vectors) ∙ columns-finite (same-permutation q) (k .1) (ranked-full q k .1);
+  answers = (λ e.
+      let fine = diagonal-finite (s .matrix) (h .0) e in
+      let g = keyed _ _ _ (fine 0 (omega arith)) (fine 1 (omega arith)) (fine 2 (omega arith)) in
+      let w = below3 (λ (c : ℕ). Within (g .L) (g .K) (at (diagonal (s .matrix)) c)) (g .one) (g .two) (g .three) in
+      record {
         codes = refl;
-        made = refl;
-        marks = settled-same f r;
-        values = (λ _. values-reversed (g .L) (g .K) i j k i' j' k' (g .one) (g .two) (g .three) r11 r22 r33 refl refl refl);
-        columns = (λ _. columns-reversed (g .L) (g .K) i j k i' j' k' (g .one) (g .two) (g .three) r11 r22 r33 refl refl refl);
-      }));
-    }
-
-alike-ends : (f : Format) (s q : State) → Alike true s q → Ends f s q
-alike-ends f s q r =
-    subst₂ (λ (v : List Float) (m : Made). Ends f s (record { matrix = q .matrix; vectors = v; made = m })) (r .vectors) (r .made)
-    (related-ends f (s .made) (r .matrices) (r .full))
+        made = r .made;
+        marks = settled-same f (r .matrices);
+        values = (λ _. values-reversed (g .L) (g .K) (diagonalAxes s) (diagonalAxes q) w (diagonal-rel (r .matrices)));
+        columns = (λ _. columns-reversed (g .L) (g .K) (diagonalAxes s) (diagonalAxes q) w (diagonal-rel (r .matrices)) (r .vectors));
+      });
+}
 
 -- ---- the whole call
 
 lists-finite : (x y v w : List Float) → allFinite x ≡ allFinite y → allFinite v ≡ allFinite w → allFinite (x ++ v) ≡ allFinite (y ++ w)
 lists-finite x y v w p q = rw (all-finite-append x v, all-finite-append y w, p, q)
 
-from-related : (f : Format) (x y : List Float) → Related true x y → Reversed (eigenOf f x) (eigenOf f y)
-unfolding eigenOf endOf
-from-related f x y r =
-    let s = lastOf f x in
-    let q = lastOf f y in
-    let a = run-alike true f 25 (startOf f x) (startOf f y) (record { matrices = r; vectors = refl; full = nine _ _ _ _ _ _ _ _ _; made = refl }) in
-    let e = alike-ends f s q a in
-    both-judged Reversed (refusedEigen f) 5 x y _ _ (all-finite-same r)
-    (λ _. both-judged Reversed (refusedEigen f) 7 (numbersOf s) (numbersOf q) (answerOf f s) (answerOf f q)
-    (lists-finite (s .matrix) (q .matrix) (rankedOf s .carried) (rankedOf q .carried) (all-finite-same (a .matrices)) (e .vectors))
-    (λ n. e .answers (both-true _ _ (sym (all-finite-append (s .matrix) (rankedOf s .carried)) ∙ n) .0))
-    (refused-reversed f 7 (omega arith)))
-    (refused-reversed f 5 (omega arith))
-
 -- for every matrix of six numbers, finite or not, and in either format
 pub reversed : (f : Format) (a : List Float) → length a ≡ 6 → Reversed (eigenOf f a) (eigenOf f (negated a))
-reversed f a h = from-related f a (negated a) (of-six a h)
+unfolding eigenOf endOf
+reversed f a n =
+    let r = of-six a n in
+    let s = lastOf f a in
+    let q = lastOf f (negated a) in
+    let l = run-alike true f 25 (startOf f a) (startOf f (negated a)) (record { matrices = r; vectors = refl; made = refl }) in
+    let e = alike-ends f s q l (last-filled f a n) (last-filled f (negated a) refl) in
+    both-judged Reversed (refusedEigen f) 5 a (negated a) _ _ (all-finite-same r)
+    (λ _. both-judged Reversed (refusedEigen f) 7 (numbersOf s) (numbersOf q) (answerOf f s) (answerOf f q)
+    (lists-finite (s .matrix) (q .matrix) (rankedOf s .carried) (rankedOf q .carried) (all-finite-same (l .matrices)) (e .vectors))
+    (λ h. e .answers (parts-finite (s .matrix) (rankedOf s .carried) h .0))
+    (refused-reversed f 7 (omega arith)))
+    (refused-reversed f 5 (omega arith))

@@ -9,7 +9,7 @@ use Rattle.float.specs.Width.{F}
 use Rattle.float.specs.Constants.{limitF}
 use Rattle.float.specs.Exactly.{Exactly}
 use Rattle.float.specs.Sign.{magnitudeOf, finite, allFinite}
-use Rattle.float.proofs.Finite.{both-true, at-finite, all-finite-append, magnitude-finite}
+use Rattle.float.proofs.Finite.{at-finite, parts-finite, magnitude-finite}
 use Rattle.matrix.specs.declared.symmetric.Sym3.{Sym3}
 use Rattle.jacobi.specs.Pairs.{sizeAt}
 use Rattle.jacobi.specs.declared.pairs.Pair.{Pair}
@@ -49,7 +49,7 @@ pub settled-means : (f : Format) (a : List Float) → length a ≡ 6 → eigenOf
 settled-means f a n e =
     let s = lastOf f a in
     let g = answered f a e in
-    let m = both-true _ _ (sym (all-finite-append (s .matrix) (rankedOf s .carried)) ∙ g .numbers) .0 in
+    let m = parts-finite (s .matrix) (rankedOf s .carried) (g .numbers) .0 in
     rw (g .answer) (settled-finite f (s .matrix) (last-filled f a n .0) m)
 
 pub settled-call : (a : Sym3) (r : Eigen3) → length (a .«data») ≡ 6 → eigen-jacobi.Post tt (a, tt) r (a, tt) → r .code ≡ 0

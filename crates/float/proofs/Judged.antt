@@ -1,8 +1,10 @@
--- A branch on the finite test is one way through `judged`, and what holds of both ways holds of it: `judged` is a choice by that test.
+-- A branch on the finite test is one way through `judged`, and what holds of both ways holds of it: `judged` is a choice by that test. A call has three ways, and
+-- only the one on which nothing is refused leaves code 0.
 use mathlib.Core.Path.{_≡_, refl, sym, _∙_}
 use mathlib.Core.Bool.{Bool, true, false}
 use mathlib.Core.List.{List, []}
 use Prim.Native.Nat.{ℕ}
+use native.Mathlib.Omega.{arith}
 use lib.Ieee.{Float}
 use Rattle.float.specs.Sign.{allFinite}
 use Rattle.float.specs.Judged.{judged, judgedCall}
@@ -34,3 +36,20 @@ pub by-call : {A : Type 0} (refuse : ℕ → A) (used made : List Float) (r : A)
     → P (judgedCall refuse used made r)
 by-call refuse used made r P done seven five =
     by-judged refuse 5 used (judged refuse 7 made r) P (λ e. by-judged refuse 7 made r P (done e) (seven e)) five
+
+-- ---- with code 0 the answer q is the one that was worked out, r, of finite numbers
+
+pub record Accepted {A : Type 0} (used made : List Float) (r q : A) : Type 0 where
+  pub input : allFinite used ≡ true
+  pub numbers : allFinite made ≡ true
+  pub answer : q ≡ r
+
+pub accepted : {A : Type 0} (code : A → ℕ) (refuse : ℕ → A) → ((k : ℕ) → code (refuse k) ≡ k) → (used made : List Float) (r : A)
+    → code (judgedCall refuse used made r) ≡ 0 → Accepted used made r (judgedCall refuse used made r)
+accepted code refuse own used made r =
+    let five = own 5 in
+    let seven = own 7 in
+    by-call refuse used made r (λ q. code q ≡ 0 → Accepted used made r q)
+    (λ i n _. record { input = i; numbers = n; answer = refl })
+    (λ i n e. absurd (omega arith))
+    (λ i e. absurd (omega arith))

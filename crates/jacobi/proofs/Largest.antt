@@ -1,28 +1,22 @@
 -- Of three finite numbers `largestOf` takes the largest, and the first of equals: finite floats compare as their keys do, which are natural numbers.
-use mathlib.Core.Path.{_≡_, refl, sym, _∙_, subst⁻¹}
+use mathlib.Core.Path.{_≡_, refl, _∙_, subst⁻¹}
 use mathlib.Core.Bool.{Bool, true, false}
 use Prim.Native.Nat.{ℕ, _≤_, _<_}
 use native.Mathlib.Omega.{arith}
-use borrow.Author.Tests.{ltb-true, ltb-false, lt-ltb, le-ltb}
+use borrow.Author.Tests.{lt-ltb, le-ltb}
 use lib.Ieee.{Float, lt}
 use Rattle.float.specs.Choice.{pick}
 use Rattle.float.specs.Exactly.{Exactly}
 use Rattle.float.specs.Sign.{finite}
-use Rattle.float.proofs.Keys.{key, Within, lt-key, keyed}
+use Rattle.float.proofs.Keys.{key, Within, lt-key, key-below, key-not-below, keyed}
 use Rattle.jacobi.specs.Pairs.{largerPair, largestOf, sizeAt, Earlier, Largest}
 use Rattle.jacobi.specs.declared.pairs.Pair.{Pair}
 use Rattle.jacobi.specs.declared.pairs.Pair.the-variants.{P12, P13, P23}
 use Rattle.jacobi.specs.declared.pairs.OffDiag.{OffDiag}
 
--- ---- a comparison and its keys
+-- ---- a comparison from the keys
 
 module _ (L K : ℕ) (x y : Float) (p : Within L K x) (q : Within L K y) where
-  pub below : lt x y ≡ true → key L K x < key L K y
-  below e = ltb-true (key L K x) (key L K y) (sym (lt-key L K x y p q) ∙ e)
-
-  pub not-below : lt x y ≡ false → key L K y ≤ key L K x
-  not-below e = ltb-false (key L K x) (key L K y) (sym (lt-key L K x y p q) ∙ e)
-
   is-below : key L K x < key L K y → lt x y ≡ true
   is-below h = lt-key L K x y p q ∙ lt-ltb (key L K x) (key L K y) h
 
@@ -34,8 +28,8 @@ module _ (L K : ℕ) (x y : Float) (p : Within L K x) (q : Within L K y) where
 under-larger : (x y l : Float) → finite x ≡ true → finite y ≡ true → finite l ≡ true → lt x y ≡ false → lt x l ≡ true → lt y l ≡ true
 under-larger x y l p q r e h =
     let g = keyed x y l p q r in
-    let a = not-below (g .L) (g .K) x y (g .one) (g .two) e in
-    let b = below (g .L) (g .K) x l (g .one) (g .three) h in
+    let a = key-not-below (g .L) (g .K) x y (g .one) (g .two) e in
+    let b = key-below (g .L) (g .K) x l (g .one) (g .three) h in
     is-below (g .L) (g .K) y l (g .two) (g .three) (omega arith)
 
 -- ---- the running maximum
@@ -94,15 +88,15 @@ module _ (x y z : Float) (p : finite x ≡ true) (q : finite y ≡ true) (r : fi
     -- t, u and v are the outcomes of the comparisons
     by-tests : (t u v : Bool) → lt x y ≡ t → lt y z ≡ u → lt x z ≡ v → Largest x y z (pick t (pick u is23 is13) (pick v is23 is12))
     by-tests true true v e f g =
-        let a = below L K x y X Y e in
-        let b = below L K y z Y Z f in
+        let a = key-below L K x y X Y e in
+        let b = key-below L K y z Y Z f in
         at23 (omega arith) b
-    by-tests true false v e f g = at13 (below L K x y X Y e) (not-below L K y z Y Z f)
+    by-tests true false v e f g = at13 (key-below L K x y X Y e) (key-not-below L K y z Y Z f)
     by-tests false u true e f g =
-        let a = not-below L K x y X Y e in
-        let b = below L K x z X Z g in
+        let a = key-not-below L K x y X Y e in
+        let b = key-below L K x z X Z g in
         at23 b (omega arith)
-    by-tests false u false e f g = at12 (not-below L K x y X Y e) (not-below L K x z X Z g)
+    by-tests false u false e f g = at12 (key-not-below L K x y X Y e) (key-not-below L K x z X Z g)
 
   -- the second comparison is with y or with x, by the outcome of the first
   second : (t : Bool) → largerPair (pick t is13 is12) is23 ≡ pick t (pick (lt y z) is23 is13) (pick (lt x z) is23 is12)

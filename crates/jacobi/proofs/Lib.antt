@@ -1,8 +1,6 @@
 pub mod Chosen
 pub mod Negated
 pub mod Run
-pub mod Accepted
-pub mod Compared
 pub mod Moves
 pub mod Placed
 pub mod Sorted

@@ -2,16 +2,18 @@
 -- again one.
 use mathlib.Core.Path.{_≡_, refl, ap, _∙_, subst, subst⁻¹}
 use mathlib.Core.Bool.{Bool, true}
-use Prim.Native.Nat.{ℕ, _<_}
+use mathlib.Core.List.{List}
+use Prim.Native.Nat.{ℕ, _*_, _<_}
 use native.Mathlib.Omega.{arith}
 use lib.ListN.{length}
 use lib.Ieee.{Float}
 use Rattle.float.specs.Sign.{finite, allFinite}
 use Rattle.float.proofs.Choice.{chosen}
+use Rattle.float.proofs.Finite.{finite-together}
 use Rattle.matrix.specs.Places.{at}
 use Rattle.matrix.specs.Square.{entryOf, exchanged, exchangeOf}
 use Rattle.matrix.proofs.Tables.{at-tabulate, tabulate-all, table-finite}
-use Rattle.matrix.proofs.Moves.{entry-of, exchanged-below, exchanged-twice}
+use Rattle.matrix.proofs.Moves.{entry-of, entry-finite, entries-finite, exchanged-below, exchanged-twice}
 use Rattle.jacobi.specs.Order.{Ranked, swapped, ordered, ordered3}
 use Rattle.jacobi.specs.Moved.{Permutation, Moved, ColumnsFollow}
 
@@ -103,6 +105,19 @@ module _ {C : Type 0} {n : ℕ} {Follows : Permutation n → C → C → Type 0}
 module _ {C : Type 0} {n : ℕ} {Follows : Permutation n → C → C → Type 0} {x y : Ranked C} (m : Moved n Follows x y) where
   pub moved-finite : ((c : ℕ) → c < n → finite (at (x .values) c) ≡ true) → length (y .values) ≡ n → allFinite (y .values) ≡ true
   moved-finite h e = rw (← tabulate-all n (y .values) e) (table-finite n (at (y .values)) (each m (λ (v : Float). finite v ≡ true) h))
+
+-- ---- columns are finite after a move exactly where they were before
+
+module _ {n : ℕ} {x y : Ranked (List Float)} (m : Moved n (ColumnsFollow n) x y) (before : length (x .carried) ≡ n * n) (after : length (y .carried) ≡ n * n) where
+  pub columns-finite : allFinite (x .carried) ≡ allFinite (y .carried)
+  columns-finite =
+      finite-together (x .carried) (y .carried)
+      (λ e. entries-finite n (y .carried) after (λ r c k l.
+      subst⁻¹ (λ (v : Float). finite v ≡ true) (m .carried r c k l) (entry-finite n (x .carried) before e r (m .by .to c) k (m .by .to-below c l))))
+      (λ e. entries-finite n (x .carried) before (λ r c k l.
+      let b = m .by .back c in
+      let h = m .by .back-below c l in
+      subst (λ (v : Float). finite v ≡ true) (m .carried r b k h ∙ ap (entryOf n (x .carried) r) (m .by .to-back c)) (entry-finite n (y .carried) after e r b k h)))
 
 -- ---- what an exchange keeps the order keeps
 

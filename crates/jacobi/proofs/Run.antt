@@ -1,4 +1,4 @@
--- The laws of `run`, for any step and any test: each follows the turns one by one.
+-- The laws of `run`, for any step and any test: each follows the rounds one by one.
 use mathlib.Core.Path.{_≡_, refl, sym, ap, _∙_, subst⁻¹}
 use mathlib.Core.Bool.{Bool, true, false}
 use mathlib.Core.Logic.{_⊎_, inl, inr}
@@ -22,13 +22,13 @@ module _ {S : Type 0} (step : S → S) (done : S → Bool) where
   unfolding run runFrom
   goes k s h = rw h
 
-  -- ---- the same of a loop that has made n of its k turns, where w is what the whole run leaves
+  -- ---- the same of a loop that has made n of its k rounds, where w is what the whole run leaves
 
   pub leaves : (k n : ℕ) (s : S) {w : S} → done s ≡ true → run step done (k - n) s ≡ w → s ≡ w
   leaves k n s h e = sym (stops (k - n) s h) ∙ e
 
-  pub turns-once : (k n : ℕ) (s : S) {w : S} → n < k → done s ≡ false → run step done (k - n) s ≡ w → run step done (k - (n + 1)) (step s) ≡ w
-  turns-once k n s l h e =
+  pub goes-once : (k n : ℕ) (s : S) {w : S} → n < k → done s ≡ false → run step done (k - n) s ≡ w → run step done (k - (n + 1)) (step s) ≡ w
+  goes-once k n s l h e =
       let left : k - n ≡ suc (k - (n + 1)) = omega arith in
       sym (goes (k - (n + 1)) s h) ∙ (rw left at e)
 
@@ -40,10 +40,10 @@ module _ {S : Type 0} (step : S → S) (done : S → Bool) where
   -- ---- the run is a row of states
 
   -- how many steps are made
-  turns : ℕ → Bool → S → ℕ
-  turns zero b s = 0
-  turns (suc k) true s = 0
-  turns (suc k) false s = suc (turns k (done (step s)) (step s))
+  rounds : ℕ → Bool → S → ℕ
+  rounds zero b s = 0
+  rounds (suc k) true s = 0
+  rounds (suc k) false s = suc (rounds k (done (step s)) (step s))
 
   none-earlier : (s : S) (j : ℕ) → j < 0 → done (after step done j s) ≡ false
   none-earlier s j l = absurd (omega arith)
@@ -58,8 +58,8 @@ module _ {S : Type 0} (step : S → S) (done : S → Bool) where
   also-ended (inl e) = inl (ap suc e)
   also-ended (inr e) = inr e
 
-  ran-from : (k : ℕ) (b : Bool) (s : S) → done s ≡ b → Ran step done k s (runFrom step done k b s) (turns k b s)
-  unfolding runFrom after turns
+  ran-from : (k : ℕ) (b : Bool) (s : S) → done s ≡ b → Ran step done k s (runFrom step done k b s) (rounds k b s)
+  unfolding runFrom after rounds
   ran-from zero b s e = record { within = omega arith; stands = refl; earlier = none-earlier s; ended = inl refl }
   ran-from (suc k) true s e = record { within = omega arith; stands = refl; earlier = none-earlier s; ended = inr e }
   ran-from (suc k) false s e =
@@ -68,7 +68,7 @@ module _ {S : Type 0} (step : S → S) (done : S → Bool) where
 
   pub ran : (k : ℕ) (s : S) → (n : ℕ) × Ran step done k s (run step done k s) n
   unfolding run
-  ran k s = (turns k (done s) s, ran-from k (done s) s refl)
+  ran k s = (rounds k (done s) s, ran-from k (done s) s refl)
 
   -- ---- a number that every step raises by one tells how many were made
 

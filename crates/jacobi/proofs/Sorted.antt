@@ -1,14 +1,14 @@
 -- Finite values put in order are in order, in either direction: upward a value ranks by its key, a natural number, and downward by the key of its negation; and
 -- the least of two or three ranks comes first.
-use mathlib.Core.Path.{_≡_, sym, _∙_}
+use mathlib.Core.Path.{_≡_}
 use mathlib.Core.Bool.{Bool, true, not}
 use mathlib.Core.List.{List}
 use Prim.Native.Nat.{ℕ, zero, suc, _+_, _≤_, _<_}
 use native.Mathlib.Omega.{arith}
-use borrow.Author.Tests.{ltb-true, ltb-false, not-true, not-false}
+use borrow.Author.Tests.{not-true, not-false}
 use lib.Ieee.{Float, neg, lt, le}
 use Rattle.float.specs.Sign.{finite}
-use Rattle.float.proofs.Keys.{key, Within, lt-key, le-key, key-rel, keyed}
+use Rattle.float.proofs.Keys.{key, Within, le-key, key-below, key-not-below, key-rel, keyed}
 use Rattle.float.proofs.Negation.{negation}
 use Rattle.matrix.specs.Places.{at}
 use Rattle.jacobi.specs.Order.{Ranked, ordered, ordered3, ascending, descending}
@@ -25,8 +25,8 @@ Direction wrong right = (L K : ℕ) → Ranking (Within L K) wrong right
 unfoldable pub upward : Direction ascending le
 upward L K = record {
   rank = key L K;
-  falls = (λ x y p q e. let l = ltb-true (key L K y) (key L K x) (sym (lt-key L K y x q p) ∙ e) in omega arith);
-  rises = (λ x y p q e. ltb-false (key L K y) (key L K x) (sym (lt-key L K y x q p) ∙ e));
+  falls = (λ x y p q e. let l = key-below L K y x q p e in omega arith);
+  rises = (λ x y p q e. key-not-below L K y x q p e);
   tells = le-key L K;
 }
 
@@ -34,8 +34,8 @@ upward L K = record {
 unfoldable pub upward-ties : Direction (λ (x y : Float). not (lt x y)) le
 upward-ties L K = record {
   rank = key L K;
-  falls = (λ x y p q e. ltb-false (key L K x) (key L K y) (sym (lt-key L K x y p q) ∙ not-true (lt x y) e));
-  rises = (λ x y p q e. let l = ltb-true (key L K x) (key L K y) (sym (lt-key L K x y p q) ∙ not-false (lt x y) e) in omega arith);
+  falls = (λ x y p q e. key-not-below L K x y p q (not-true (lt x y) e));
+  rises = (λ x y p q e. let l = key-below L K x y p q (not-false (lt x y) e) in omega arith);
   tells = le-key L K;
 }
 
@@ -45,22 +45,22 @@ mirror L K x p = key-rel L K (negation x) p
 pub downward : Direction descending atLeast
 downward L K = record {
   rank = (λ x. key L K (neg x));
-  falls = (λ x y p q e. let l = ltb-true (key L K x) (key L K y) (sym (lt-key L K x y p q) ∙ e) in omega (arith, mirror L K x p, mirror L K y q));
-  rises = (λ x y p q e. let l = ltb-false (key L K x) (key L K y) (sym (lt-key L K x y p q) ∙ e) in omega (arith, mirror L K x p, mirror L K y q));
+  falls = (λ x y p q e. let l = key-below L K x y p q e in omega (arith, mirror L K x p, mirror L K y q));
+  rises = (λ x y p q e. let l = key-not-below L K x y p q e in omega (arith, mirror L K x p, mirror L K y q));
   tells = (λ x y p q l. le-key L K y x q p (omega (arith, mirror L K x p, mirror L K y q)));
 }
 
 -- ---- ranks that rise
 
 module _ {P : Float → Type 0} {wrong right : Float → Float → Bool} (g : Ranking P wrong right) where
-  abbrev Rises : ℕ → List Float → Type 0
+  abbrev pub Rises : ℕ → List Float → Type 0
   Rises n x = (c : ℕ) → suc c < n → g .rank (at x c) ≤ g .rank (at x (suc c))
 
   two-rise : {x y : List Float} → Placed g 0 1 x y → Rises 2 y
   two-rise p zero l = omega arith
   two-rise p (suc c) l = absurd (omega arith)
 
-  three-rise : {x y : List Float} → Placed3 g x y → Rises 3 y
+  pub three-rise : {x y : List Float} → Placed3 g x y → Rises 3 y
   three-rise p zero l = omega arith
   three-rise p (suc zero) l = omega arith
   three-rise p (suc (suc c)) l = absurd (omega arith)

@@ -1,5 +1,5 @@
 -- A square list is the table of its entries, since i = i % n + (i / n) * n; so a move that is done twice is undone entry by entry.
-use mathlib.Core.Path.{_≡_, refl, sym, ap, _∙_}
+use mathlib.Core.Path.{_≡_, refl, sym, ap, _∙_, subst}
 use mathlib.Core.Bool.{Bool, true, false}
 use mathlib.Core.List.{List}
 use Prim.Native.Nat.{ℕ, zero, suc, _*_, _/_, _%_, _≤_, _<_}
@@ -10,10 +10,12 @@ use lib.Dec.{ltb, eqb}
 use lib.ListN.{length}
 use lib.Ieee.{Float, neg}
 use Rattle.float.specs.Choice.{pick}
+use Rattle.float.specs.Sign.{finite, allFinite}
+use Rattle.float.proofs.Finite.{at-finite}
 use Rattle.float.proofs.Negation.{neg-twice}
 use Rattle.matrix.specs.Places.{at, squareIndex}
 use Rattle.matrix.specs.Square.{squareOf, entryOf, transposeOf, exchanged, exchangeOf, negateOf}
-use Rattle.matrix.proofs.Tables.{at-tabulate, tabulate-same, tabulate-all}
+use Rattle.matrix.proofs.Tables.{at-tabulate, tabulate-same, tabulate-all, table-finite}
 use Rattle.matrix.proofs.Placing.{square-below}
 
 -- ---- tables of entries
@@ -49,6 +51,16 @@ entry-of n g r c h k =
     at-tabulate (n * n) (λ (i : ℕ). g (i % n) (i / n)) (squareIndex n r c) (square-below h k)
     ∙ ap (λ (i : ℕ). g i (squareIndex n r c / n)) (row-of n r c h)
     ∙ ap (g r) (column-of n r c h)
+
+-- a square list is finite exactly where its entries are
+module _ (n : ℕ) (xs : List Float) (full : length xs ≡ n * n) where
+  pub entry-finite : allFinite xs ≡ true → (r c : ℕ) → r < n → c < n → finite (entryOf n xs r c) ≡ true
+  entry-finite e r c h k = at-finite xs e (squareIndex n r c) (rw full (square-below h k))
+
+  pub entries-finite : ((r c : ℕ) → r < n → c < n → finite (entryOf n xs r c) ≡ true) → allFinite xs ≡ true
+  entries-finite h =
+      subst (λ (ys : List Float). allFinite ys ≡ true) (square-eta n xs full)
+      (table-finite (n * n) (λ (i : ℕ). entryOf n xs (i % n) (i / n)) (λ i l. h (i % n) (i / n) (mod-lt i (size-above n i l)) (column-below n i l)))
 
 -- a move that gives back each entry gives back the list
 undone : (n : ℕ) (g : ℕ → ℕ → Float) (xs : List Float) → length xs ≡ n * n → ((r c : ℕ) → r < n → c < n → g r c ≡ entryOf n xs r c) → squareOf n g ≡ xs

@@ -2,7 +2,7 @@
 use mathlib.Core.Path.{_≡_, refl}
 use mathlib.Core.List.{List}
 use lib.Ieee.{Float, Format}
-use Rattle.jacobi.proofs.Accepted.{Accepted, accepted}
+use Rattle.float.proofs.Judged.{Accepted, accepted}
 use Rattle.svd.specs.Svd3x3.{lastOf, SvdAnswer, refusedSvd, numbersOf, answerOf, endOf, svdOf}
 use Rattle.svd.specs.Svd2x2.{sides2Of, factors2Of, Svd2Answer, refusedSvd2, numbers2Of, answer2Of, end2Of, svd2Of}
 

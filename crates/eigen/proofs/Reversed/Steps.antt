@@ -3,11 +3,12 @@
 use mathlib.Core.Path.{_≡_, ap, subst₂, _∙_}
 use mathlib.Core.Bool.{Bool}
 use mathlib.Core.List.{List, [], _∷_}
-use Prim.Native.Nat.{ℕ}
+use Prim.Native.Nat.{ℕ, _<_}
 use lib.Ieee.{Float, Format, lt}
 use Rattle.float.specs.Constants.{limitF}
 use Rattle.float.specs.Sign.{allFinite}
 use Rattle.float.proofs.Negation.{Rel, same, zero-rel, add-rel, sub-rel, mul-rel, magnitude-rel, finite-rel}
+use Rattle.matrix.specs.Places.{at}
 use Rattle.jacobi.specs.Run.{oneMore}
 use Rattle.jacobi.specs.declared.rotation.Rotation.{Rotation}
 use Rattle.jacobi.specs.declared.pairs.Pair.{Pair}
@@ -15,18 +16,15 @@ use Rattle.jacobi.specs.declared.pairs.Pair.the-variants.{P12, P13, P23}
 use Rattle.jacobi.specs.declared.pairs.OffDiag.{OffDiag}
 use Rattle.jacobi.proofs.Negated.{rotation-same}
 use Rattle.jacobi.proofs.Run.{run-rel}
+use Rattle.jacobi.proofs.Sorted.{below3}
 use Rattle.eigen.specs.Pairs.{apq, app, aqq, offDiagOf, pairOf, turnOf, chosenOf, firstMixed, secondMixed, appliedOf}
-use Rattle.eigen.specs.Eigen3x3.{State, settledOf, nextMatrix, nextVectors, stepOf, runOf}
+use Rattle.eigen.specs.Eigen3x3.{State, settledOf, nextMatrix, nextVectors, stepOf, runOf, diagonal}
 
 -- ---- a packed matrix and the same or its negation
 
 pub data Related (b : Bool) : List Float → List Float → Type 0 where
   six : {x11 x12 x22 x13 x23 x33 y11 y12 y22 y13 y23 y33 : Float} → Rel b x11 y11 → Rel b x12 y12 → Rel b x22 y22 → Rel b x13 y13 → Rel b x23 y23 → Rel b x33 y33
       → Related b (x11 ∷ x12 ∷ x22 ∷ x13 ∷ x23 ∷ x33 ∷ []) (y11 ∷ y12 ∷ y22 ∷ y13 ∷ y23 ∷ y33 ∷ [])
-
--- nine numbers
-pub data Nine : List Float → Type 0 where
-  nine : (x1 x2 x3 y1 y2 y3 z1 z2 z3 : Float) → Nine (x1 ∷ x2 ∷ x3 ∷ y1 ∷ y2 ∷ y3 ∷ z1 ∷ z2 ∷ z3 ∷ [])
 
 pub all-finite-same : {b : Bool} {x y : List Float} → Related b x y → allFinite x ≡ allFinite y
 unfolding allFinite
@@ -46,6 +44,10 @@ aqq-rel : {b : Bool} {x y : List Float} (p : Pair) → Related b x y → Rel b (
 aqq-rel P12 (six r11 r12 r22 r13 r23 r33) = r22
 aqq-rel P13 (six r11 r12 r22 r13 r23 r33) = r33
 aqq-rel P23 (six r11 r12 r22 r13 r23 r33) = r33
+
+pub diagonal-rel : {b : Bool} {x y : List Float} → Related b x y → (c : ℕ) → c < 3 → Rel b (at (diagonal x) c) (at (diagonal y) c)
+diagonal-rel {b} (six {x11} {x12} {x22} {x13} {x23} {x33} {y11} {y12} {y22} {y13} {y23} {y33} r11 r12 r22 r13 r23 r33) =
+    below3 (λ (c : ℕ). Rel b (at (x11 ∷ x22 ∷ x33 ∷ []) c) (at (y11 ∷ y22 ∷ y33 ∷ []) c)) r11 r22 r33
 
 -- ---- the same pair, the same test, the same rotation
 
@@ -93,7 +95,6 @@ vectors-same f v r = cc (pair-same r, chosen-same f r)
 pub record Alike (b : Bool) (s q : State) : Type 0 where
   pub matrices : Related b (s .matrix) (q .matrix)
   pub vectors : s .vectors ≡ q .vectors
-  pub full : Nine (s .vectors)
   pub made : s .made ≡ q .made
 
 step-alike : (b : Bool) (f : Format) (s q : State) → Alike b s q → Alike b (stepOf f s) (stepOf f q)
@@ -101,7 +102,6 @@ unfolding stepOf nextVectors
 step-alike b f s q r = record {
   matrices = matrix-rel f (r .matrices);
   vectors = vectors-same f (s .vectors) (r .matrices) ∙ ap (λ (v : List Float). nextVectors f (q .matrix) v) (r .vectors);
-  full = nine _ _ _ _ _ _ _ _ _;
   made = ap oneMore (r .made);
 }
 

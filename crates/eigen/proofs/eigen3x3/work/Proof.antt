@@ -7,7 +7,7 @@ use Rattle.float.specs.Width.{F}
 use Rattle.matrix.specs.declared.square.Mat3.{Mat3}
 use Rattle.matrix.specs.declared.symmetric.Sym3.{Sym3}
 use Rattle.jacobi.specs.declared.made.Made.{Made}
-use Rattle.jacobi.proofs.Run.{leaves, turns-once, used-up}
+use Rattle.jacobi.proofs.Run.{leaves, goes-once, used-up}
 use Rattle.eigen.specs.Eigen3x3.{State, working, settledOf, stepOf, runOf, lastOf}
 use Rattle.eigen.proofs.Rounds.{tested, next-state}
 use borrow.Author.Needs.{needs}
@@ -48,7 +48,7 @@ loop-again c =
       ap (runOf F (25 - (n + 1)))
           (next-state F (l .b .«data») o (l .made) (c .before .before .before .before .rotate-pair .ensures) (l .v .«data»)
           (c .before .update-eigenvectors .ensures))
-          ∙ turns-once (stepOf F) done 25 n (state (l .b) (l .v) (l .made)) (omega arith) h (l .inv .1),
+          ∙ goes-once (stepOf F) done 25 n (state (l .b) (l .v) (l .made)) (omega arith) h (l .inv .1),
     )
 
 returns-2 : tie.Need-returns-2 Inv-loop μ-loop

@@ -6,7 +6,7 @@ use native.Mathlib.Omega.{arith}
 use Rattle.float.specs.Width.{F}
 use Rattle.matrix.specs.declared.symmetric.Sym3.{Sym3}
 use Rattle.jacobi.specs.declared.made.Made.{Made}
-use Rattle.jacobi.proofs.Run.{leaves, turns-once, used-up}
+use Rattle.jacobi.proofs.Run.{leaves, goes-once, used-up}
 use Rattle.eigen.specs.Eigen3x3.{BareState, bare, settledOf, bareStepOf, bareRunOf, bareLastOf}
 use Rattle.eigen.proofs.Rounds.{tested, next-bare}
 use borrow.Author.Needs.{needs}
@@ -46,7 +46,7 @@ loop-again c =
       omega arith,
       ap (bareRunOf F (25 - (n + 1)))
           (next-bare F (l .b .«data») o (l .made) (c .before .before .rotate-pair .ensures))
-          ∙ turns-once (bareStepOf F) done 25 n (state (l .b) (l .made)) (omega arith) h (l .inv .1),
+          ∙ goes-once (bareStepOf F) done 25 n (state (l .b) (l .made)) (omega arith) h (l .inv .1),
     )
 
 returns-2 : tie.Need-returns-2 Inv-loop μ-loop

@@ -7,7 +7,7 @@ use borrow.Author.Needs.{needs}
 use Rattle.float.specs.Width.{F}
 use Rattle.matrix.specs.declared.square.Mat3.{Mat3}
 use Rattle.jacobi.specs.declared.made.Made.{Made}
-use Rattle.jacobi.proofs.Run.{leaves, turns-once, used-up}
+use Rattle.jacobi.proofs.Run.{leaves, goes-once, used-up}
 use Rattle.svd.specs.Svd3x3.{State, working, settledOf, stepOf, runOf, lastOf}
 use Rattle.svd.proofs.Rounds.{tested, next-state}
 use Rattle.svd.proofs.svd3x3.work.Statement.{statement}
@@ -48,7 +48,7 @@ loop-again c =
     (q .before .before .apply-two-sided-rotation .ensures) (q .before .turn-columns .ensures) (q .turn-columns2 .ensures) in (
       omega arith,
       ap (runOf F (25 - (l .made .count + 1))) s
-          ∙ turns-once (stepOf F) done 25 (l .made .count) (state (l .b) (l .u) (l .v) (l .made)) (omega arith) h (l .inv .1),
+          ∙ goes-once (stepOf F) done 25 (l .made .count) (state (l .b) (l .u) (l .v) (l .made)) (omega arith) h (l .inv .1),
     )
 
 returns-2 : tie.Need-returns-2 Inv-loop μ-loop
