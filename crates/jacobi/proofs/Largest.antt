@@ -1,14 +1,15 @@
 -- Of three finite numbers `largestOf` takes the largest, and the first of equals: finite floats compare as their keys do, which are natural numbers.
-use mathlib.Core.Path.{_≡_, refl, sym, _∙_, subst⁻¹}
+use mathlib.Core.Path.{_≡_, refl, sym, _∙_}
 use mathlib.Core.Bool.{Bool, true, false}
 use Prim.Native.Nat.{ℕ, _≤_, _<_}
 use native.Mathlib.Omega.{arith}
 use borrow.Author.Tests.{ltb-true, ltb-false, lt-ltb, le-ltb}
-use lib.Ieee.{Float, lt}
+use lib.Ieee.{Float, lt, isNan}
 use Rattle.float.specs.Choice.{pick}
 use Rattle.float.specs.Exactly.{Exactly}
 use Rattle.float.specs.Sign.{finite}
 use Rattle.float.proofs.Keys.{key, Within, lt-key, keyed}
+use Rattle.float.proofs.Under.{under, not-above}
 use Rattle.jacobi.specs.Pairs.{largerPair, largestOf, sizeAt, Earlier, Largest}
 use Rattle.jacobi.specs.declared.pairs.Pair.{Pair}
 use Rattle.jacobi.specs.declared.pairs.Pair.the-variants.{P12, P13, P23}
@@ -29,18 +30,9 @@ module _ (L K : ℕ) (x y : Float) (p : Within L K x) (q : Within L K y) where
   is-not-below : key L K y ≤ key L K x → lt x y ≡ false
   is-not-below h = lt-key L K x y p q ∙ le-ltb (key L K x) (key L K y) h
 
--- ---- of x, y and l: what is not above x is under each l that x is under
-
-under-larger : (x y l : Float) → finite x ≡ true → finite y ≡ true → finite l ≡ true → lt x y ≡ false → lt x l ≡ true → lt y l ≡ true
-under-larger x y l p q r e h =
-    let g = keyed x y l p q r in
-    let a = not-below (g .L) (g .K) x y (g .one) (g .two) e in
-    let b = below (g .L) (g .K) x l (g .one) (g .three) h in
-    is-below (g .L) (g .K) y l (g .two) (g .three) (omega arith)
-
 -- ---- the running maximum
 
-module _ (x y z : Float) (p : finite x ≡ true) (q : finite y ≡ true) (r : finite z ≡ true) where
+module _ (x y z : Float) where
   abbrev is12 : OffDiag
   is12 = record { pair = P12; size = x }
 
@@ -49,6 +41,11 @@ module _ (x y z : Float) (p : finite x ≡ true) (q : finite y ≡ true) (r : fi
 
   abbrev is23 : OffDiag
   is23 = record { pair = P23; size = z }
+
+  -- the second comparison is with y or with x, by the outcome of the first
+  second : (t : Bool) → largerPair (pick t is13 is12) is23 ≡ pick t (pick (lt y z) is23 is13) (pick (lt x z) is23 is12)
+  second true = refl
+  second false = refl
 
   module _ (L K : ℕ) (X : Within L K x) (Y : Within L K y) (Z : Within L K z) where
     -- by the order of the keys
@@ -104,26 +101,27 @@ module _ (x y z : Float) (p : finite x ≡ true) (q : finite y ≡ true) (r : fi
         at23 b (omega arith)
     by-tests false u false e f g = at12 (not-below L K x y X Y e) (not-below L K x z X Z g)
 
-  -- the second comparison is with y or with x, by the outcome of the first
-  second : (t : Bool) → largerPair (pick t is13 is12) is23 ≡ pick t (pick (lt y z) is23 is13) (pick (lt x z) is23 is12)
-  second true = refl
-  second false = refl
-
-  pub largest : Largest x y z (largestOf x y z)
+  pub largest : finite x ≡ true → finite y ≡ true → finite z ≡ true → Largest x y z (largestOf x y z)
   unfolding largestOf
-  largest = let g = keyed x y z p q r in rw (second (lt x y)) (by-tests (g .L) (g .K) (g .one) (g .two) (g .three) _ _ _ refl refl refl)
+  largest p q r = let g = keyed x y z p q r in rw (second (lt x y)) (by-tests (g .L) (g .K) (g .one) (g .two) (g .three) _ _ _ refl refl refl)
 
-  -- ---- and so it is under l exactly where all three are
+  -- ---- it is under a finite l exactly where all three are: one that was passed over is not above it
 
-  size-finite : (o : Pair) → finite (sizeAt o x y z) ≡ true
-  size-finite P12 = p
-  size-finite P13 = q
-  size-finite P23 = r
+  module _ (l : Float) (s : finite l ≡ true) (m : isNan y ≡ false) (n : isNan z ≡ false) where
+    abbrev AllUnder : Type 0
+    AllUnder = (o : Pair) → lt (sizeAt o x y z) l ≡ true
 
-  pub all-under : (l : Float) → finite l ≡ true → Exactly (lt (largestOf x y z .size) l ≡ true) ((o : Pair) → lt (sizeAt o x y z) l ≡ true)
-  all-under l s =
-      let m = largest in
-      let k : finite (largestOf x y z .size) ≡ true = subst⁻¹ (λ (a : Float). finite a ≡ true) (m .own) (size-finite (largestOf x y z .pair)) in (
-        (λ h o. under-larger (largestOf x y z .size) (sizeAt o x y z) l k (size-finite o) s (m .most o) h),
-        (λ h. subst⁻¹ (λ (a : Float). lt a l ≡ true) (m .own) (h (largestOf x y z .pair))),
-      )
+    each : lt x l ≡ true → lt y l ≡ true → lt z l ≡ true → AllUnder
+    each a b c P12 = a
+    each a b c P13 = b
+    each a b c P23 = c
+
+    under-by : (t u v : Bool) → lt x y ≡ t → lt y z ≡ u → lt x z ≡ v → Exactly (lt (pick t (pick u is23 is13) (pick v is23 is12) .size) l ≡ true) AllUnder
+    under-by true true v e f g = ((λ h. let b = under y z l s f h in each (under x y l s e b) b h), (λ h. h P23))
+    under-by true false v e f g = ((λ h. each (under x y l s e h) h (not-above y z l s n f h)), (λ h. h P13))
+    under-by false u true e f g = ((λ h. let a = under x z l s g h in each a (not-above x y l s m e a) h), (λ h. h P23))
+    under-by false u false e f g = ((λ h. each h (not-above x y l s m e h) (not-above x z l s n g h)), (λ h. h P12))
+
+    pub all-under : Exactly (lt (largestOf x y z .size) l ≡ true) AllUnder
+    unfolding largestOf
+    all-under = rw (second (lt x y)) (under-by _ _ _ refl refl refl)
