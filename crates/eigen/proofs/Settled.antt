@@ -1,15 +1,16 @@
 -- Settled means that all three numbers beside the diagonal are under the limit: the test reads the largest of them.
 use mathlib.Core.Path.{_≡_, refl, sym, ap, _∙_}
-use mathlib.Core.Bool.{true}
+use mathlib.Core.Bool.{true, false}
 use mathlib.Core.List.{List}
 use native.Mathlib.Omega.{arith}
 use lib.ListN.{length}
-use lib.Ieee.{Float, Format, binary32, binary64, lt, ofBits}
+use lib.Ieee.{Float, Format, lt, isNan}
 use Rattle.float.specs.Width.{F}
 use Rattle.float.specs.Constants.{limitF}
 use Rattle.float.specs.Exactly.{Exactly}
 use Rattle.float.specs.Sign.{magnitudeOf, finite, allFinite}
 use Rattle.float.proofs.Finite.{at-finite, parts-finite, magnitude-finite}
+use Rattle.float.proofs.Under.{finite-no-nan, limit-finite}
 use Rattle.matrix.specs.declared.symmetric.Sym3.{Sym3}
 use Rattle.jacobi.specs.Pairs.{sizeAt}
 use Rattle.jacobi.specs.declared.pairs.Pair.{Pair}
@@ -23,11 +24,6 @@ use Rattle.eigen.proofs.Answered.{answered}
 use Rattle.eigen.proofs.Full.{last-filled}
 use Rattle.eigen.proofs.eigen3x3.eigen_jacobi.Reads as eigen-jacobi
 
-limit-finite : (f : Format) → finite (limitF f) ≡ true
-unfolding finite ofBits
-limit-finite binary32 = refl
-limit-finite binary64 = refl
-
 -- the number of a pair by its name among the three
 own-size : (a : List Float) (x : Pair) → sizeAt x (magnitudeOf (apq P12 a)) (magnitudeOf (apq P13 a)) (magnitudeOf (apq P23 a)) ≡ magnitudeOf (apq x a)
 own-size a P12 = refl
@@ -37,11 +33,9 @@ own-size a P23 = refl
 pub settled-finite : (f : Format) (a : List Float) → length a ≡ 6 → allFinite a ≡ true → Exactly (settledOf f a ≡ true) (AllUnder f a)
 unfolding settledOf
 settled-finite f a n e =
+    let size : (x : Float) → finite x ≡ true → isNan (magnitudeOf x) ≡ false = λ (x : Float) (h : finite x ≡ true). finite-no-nan (magnitudeOf x) (magnitude-finite x h) in
     let g = at-finite a e in
-    let u =
-    all-under _ _ _ (magnitude-finite (apq P12 a) (g 1 (omega arith))) (magnitude-finite (apq P13 a) (g 3 (omega arith)))
-    (magnitude-finite (apq P23 a) (g 4 (omega arith))) (limitF f) (limit-finite f)
-    in
+    let u = all-under _ _ _ (limitF f) (limit-finite f) (size (apq P13 a) (g 3 (omega arith))) (size (apq P23 a) (g 4 (omega arith))) in
     ((λ h x. sym (ap (λ (y : Float). lt y (limitF f)) (own-size a x)) ∙ u .0 h x), (λ h. u .1 (λ x. ap (λ (y : Float). lt y (limitF f)) (own-size a x) ∙ h x)))
 
 -- of the answer, and of the call: of any answer within the promise that the source states

@@ -10,6 +10,7 @@ pub mod Finite
 pub mod Judged
 pub mod Negation
 pub mod Keys
+pub mod Under
 pub mod Zeros
 pub mod Units
 pub mod Rounding

@@ -1,40 +1,22 @@
 -- Of three finite numbers `largestOf` takes the largest, and the first of equals: finite floats compare as their keys do, which are natural numbers.
-use mathlib.Core.Path.{_≡_, refl, _∙_, subst⁻¹}
+use mathlib.Core.Path.{_≡_, refl}
 use mathlib.Core.Bool.{Bool, true, false}
 use Prim.Native.Nat.{ℕ, _≤_, _<_}
 use native.Mathlib.Omega.{arith}
-use borrow.Author.Tests.{lt-ltb, le-ltb}
-use lib.Ieee.{Float, lt}
+use lib.Ieee.{Float, lt, isNan}
 use Rattle.float.specs.Choice.{pick}
 use Rattle.float.specs.Exactly.{Exactly}
 use Rattle.float.specs.Sign.{finite}
-use Rattle.float.proofs.Keys.{key, Within, lt-key, key-below, key-not-below, keyed}
+use Rattle.float.proofs.Keys.{key, Within, key-below, key-not-below, below-of-keys, not-below-of-keys, keyed}
+use Rattle.float.proofs.Under.{under, not-above}
 use Rattle.jacobi.specs.Pairs.{largerPair, largestOf, sizeAt, Earlier, Largest}
 use Rattle.jacobi.specs.declared.pairs.Pair.{Pair}
 use Rattle.jacobi.specs.declared.pairs.Pair.the-variants.{P12, P13, P23}
 use Rattle.jacobi.specs.declared.pairs.OffDiag.{OffDiag}
 
--- ---- a comparison from the keys
-
-module _ (L K : ℕ) (x y : Float) (p : Within L K x) (q : Within L K y) where
-  is-below : key L K x < key L K y → lt x y ≡ true
-  is-below h = lt-key L K x y p q ∙ lt-ltb (key L K x) (key L K y) h
-
-  is-not-below : key L K y ≤ key L K x → lt x y ≡ false
-  is-not-below h = lt-key L K x y p q ∙ le-ltb (key L K x) (key L K y) h
-
--- ---- of x, y and l: what is not above x is under each l that x is under
-
-under-larger : (x y l : Float) → finite x ≡ true → finite y ≡ true → finite l ≡ true → lt x y ≡ false → lt x l ≡ true → lt y l ≡ true
-under-larger x y l p q r e h =
-    let g = keyed x y l p q r in
-    let a = key-not-below (g .L) (g .K) x y (g .one) (g .two) e in
-    let b = key-below (g .L) (g .K) x l (g .one) (g .three) h in
-    is-below (g .L) (g .K) y l (g .two) (g .three) (omega arith)
-
 -- ---- the running maximum
 
-module _ (x y z : Float) (p : finite x ≡ true) (q : finite y ≡ true) (r : finite z ≡ true) where
+module _ (x y z : Float) where
   abbrev is12 : OffDiag
   is12 = record { pair = P12; size = x }
 
@@ -44,15 +26,20 @@ module _ (x y z : Float) (p : finite x ≡ true) (q : finite y ≡ true) (r : fi
   abbrev is23 : OffDiag
   is23 = record { pair = P23; size = z }
 
+  -- the second comparison is with y or with x, by the outcome of the first
+  second : (t : Bool) → largerPair (pick t is13 is12) is23 ≡ pick t (pick (lt y z) is23 is13) (pick (lt x z) is23 is12)
+  second true = refl
+  second false = refl
+
   module _ (L K : ℕ) (X : Within L K x) (Y : Within L K y) (Z : Within L K z) where
     -- by the order of the keys
     at12 : key L K y ≤ key L K x → key L K z ≤ key L K x → Largest x y z is12
     at12 a b = record { own = refl; most = most; first = first }
       where
         most : (p : Pair) → lt x (sizeAt p x y z) ≡ false
-        most P12 = is-not-below L K x x X X (omega arith)
-        most P13 = is-not-below L K x y X Y a
-        most P23 = is-not-below L K x z X Z b
+        most P12 = not-below-of-keys L K x x X X (omega arith)
+        most P13 = not-below-of-keys L K x y X Y a
+        most P23 = not-below-of-keys L K x z X Z b
 
         first : (p : Pair) → Earlier p P12 → lt (sizeAt p x y z) x ≡ true
         first P12 h = absurd (omega arith)
@@ -63,12 +50,12 @@ module _ (x y z : Float) (p : finite x ≡ true) (q : finite y ≡ true) (r : fi
     at13 a b = record { own = refl; most = most; first = first }
       where
         most : (p : Pair) → lt y (sizeAt p x y z) ≡ false
-        most P12 = is-not-below L K y x Y X (omega arith)
-        most P13 = is-not-below L K y y Y Y (omega arith)
-        most P23 = is-not-below L K y z Y Z b
+        most P12 = not-below-of-keys L K y x Y X (omega arith)
+        most P13 = not-below-of-keys L K y y Y Y (omega arith)
+        most P23 = not-below-of-keys L K y z Y Z b
 
         first : (p : Pair) → Earlier p P13 → lt (sizeAt p x y z) y ≡ true
-        first P12 h = is-below L K x y X Y a
+        first P12 h = below-of-keys L K x y X Y a
         first P13 h = absurd (omega arith)
         first P23 h = absurd (omega arith)
 
@@ -76,13 +63,13 @@ module _ (x y z : Float) (p : finite x ≡ true) (q : finite y ≡ true) (r : fi
     at23 a b = record { own = refl; most = most; first = first }
       where
         most : (p : Pair) → lt z (sizeAt p x y z) ≡ false
-        most P12 = is-not-below L K z x Z X (omega arith)
-        most P13 = is-not-below L K z y Z Y (omega arith)
-        most P23 = is-not-below L K z z Z Z (omega arith)
+        most P12 = not-below-of-keys L K z x Z X (omega arith)
+        most P13 = not-below-of-keys L K z y Z Y (omega arith)
+        most P23 = not-below-of-keys L K z z Z Z (omega arith)
 
         first : (p : Pair) → Earlier p P23 → lt (sizeAt p x y z) z ≡ true
-        first P12 h = is-below L K x z X Z a
-        first P13 h = is-below L K y z Y Z b
+        first P12 h = below-of-keys L K x z X Z a
+        first P13 h = below-of-keys L K y z Y Z b
         first P23 h = absurd (omega arith)
 
     -- t, u and v are the outcomes of the comparisons
@@ -98,26 +85,27 @@ module _ (x y z : Float) (p : finite x ≡ true) (q : finite y ≡ true) (r : fi
         at23 b (omega arith)
     by-tests false u false e f g = at12 (key-not-below L K x y X Y e) (key-not-below L K x z X Z g)
 
-  -- the second comparison is with y or with x, by the outcome of the first
-  second : (t : Bool) → largerPair (pick t is13 is12) is23 ≡ pick t (pick (lt y z) is23 is13) (pick (lt x z) is23 is12)
-  second true = refl
-  second false = refl
-
-  pub largest : Largest x y z (largestOf x y z)
+  pub largest : finite x ≡ true → finite y ≡ true → finite z ≡ true → Largest x y z (largestOf x y z)
   unfolding largestOf
-  largest = let g = keyed x y z p q r in rw (second (lt x y)) (by-tests (g .L) (g .K) (g .one) (g .two) (g .three) _ _ _ refl refl refl)
+  largest p q r = let g = keyed x y z p q r in rw (second (lt x y)) (by-tests (g .L) (g .K) (g .one) (g .two) (g .three) _ _ _ refl refl refl)
 
-  -- ---- and so it is under l exactly where all three are
+  -- ---- it is under a finite l exactly where all three are: one that was passed over is not above it
 
-  size-finite : (o : Pair) → finite (sizeAt o x y z) ≡ true
-  size-finite P12 = p
-  size-finite P13 = q
-  size-finite P23 = r
+  module _ (l : Float) (s : finite l ≡ true) (m : isNan y ≡ false) (n : isNan z ≡ false) where
+    abbrev AllUnder : Type 0
+    AllUnder = (o : Pair) → lt (sizeAt o x y z) l ≡ true
 
-  pub all-under : (l : Float) → finite l ≡ true → Exactly (lt (largestOf x y z .size) l ≡ true) ((o : Pair) → lt (sizeAt o x y z) l ≡ true)
-  all-under l s =
-      let m = largest in
-      let k : finite (largestOf x y z .size) ≡ true = subst⁻¹ (λ (a : Float). finite a ≡ true) (m .own) (size-finite (largestOf x y z .pair)) in (
-        (λ h o. under-larger (largestOf x y z .size) (sizeAt o x y z) l k (size-finite o) s (m .most o) h),
-        (λ h. subst⁻¹ (λ (a : Float). lt a l ≡ true) (m .own) (h (largestOf x y z .pair))),
-      )
+    each : lt x l ≡ true → lt y l ≡ true → lt z l ≡ true → AllUnder
+    each a b c P12 = a
+    each a b c P13 = b
+    each a b c P23 = c
+
+    under-by : (t u v : Bool) → lt x y ≡ t → lt y z ≡ u → lt x z ≡ v → Exactly (lt (pick t (pick u is23 is13) (pick v is23 is12) .size) l ≡ true) AllUnder
+    under-by true true v e f g = ((λ h. let b = under y z l s f h in each (under x y l s e b) b h), (λ h. h P23))
+    under-by true false v e f g = ((λ h. each (under x y l s e h) h (not-above y z l s n f h)), (λ h. h P13))
+    under-by false u true e f g = ((λ h. let a = under x z l s g h in each a (not-above x y l s m e a) h), (λ h. h P23))
+    under-by false u false e f g = ((λ h. each h (not-above x y l s m e h) (not-above x z l s n g h)), (λ h. h P12))
+
+    pub all-under : Exactly (lt (largestOf x y z .size) l ≡ true) AllUnder
+    unfolding largestOf
+    all-under = rw (second (lt x y)) (under-by _ _ _ refl refl refl)

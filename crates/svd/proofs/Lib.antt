@@ -6,4 +6,5 @@ pub mod Moved
 pub mod Sizes
 pub mod Ordered
 pub mod Owed
+pub mod Settled
 pub mod Unique

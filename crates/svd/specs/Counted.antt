@@ -1,11 +1,14 @@
 -- What the count and the mark of an answer tell of the run. Definitions only.
 use mathlib.Core.Path.{_≡_}
-use mathlib.Core.Bool.{Bool}
+use mathlib.Core.Bool.{Bool, true}
 use mathlib.Core.List.{List}
 use Prim.Native.Nat.{ℕ}
-use lib.Ieee.{Float, Format}
+use lib.Ieee.{Float, Format, lt}
+use Rattle.float.specs.Constants.{limitF}
 use Rattle.jacobi.specs.Run.{Ran}
 use Rattle.jacobi.specs.declared.made.Made.{Made}
+use Rattle.jacobi.specs.declared.pairs.Pair.{Pair}
+use Rattle.svd.specs.Pairs.{sizeOf}
 use Rattle.svd.specs.Svd3x3.{State, settledOf, stepOf, startOf, lastOf}
 
 -- the last state is the n-th after the first; no state before it is settled; and it is settled, or the 25 rotations are used up
@@ -17,3 +20,7 @@ pub record Counted (f : Format) (a : List Float) (made : Made) (settled : Bool) 
   pub last : made ≡ lastOf f a .made
   pub mark : settled ≡ settledOf f (lastOf f a .matrix)
   pub ran : RanFor f a (made .count)
+
+-- what the mark tells of a finite matrix: each pair's sum of two magnitudes beside its diagonal is strictly under the limit
+abbrev pub AllUnder : Format → List Float → Type 0
+AllUnder f a = (x : Pair) → lt (sizeOf f x a) (limitF f) ≡ true

@@ -1,0 +1,102 @@
+-- What is below a number, or not above it, is under each finite l that the number is under: infinities by cases, and finite floats compare as their keys do.
+use mathlib.Core.Path.{_≡_, refl, sym, _∙_}
+use mathlib.Core.Bool.{Bool, true, false, not, _&&_, Bool·beq, cond, true≢false, false≢true}
+use Prim.Native.Nat.{ℕ, zero, suc, _+_, _-_, _*_, _^_}
+use native.Mathlib.Omega.{arith}
+use lib.Dec.{ltb}
+use lib.Ieee.{Float, nan, inf, fin, Format, binary32, binary64, ofBits, prec, emax, low, lt, sum, add, round, units, odd, isNan}
+use Rattle.float.specs.Constants.{limitF}
+use Rattle.float.specs.Sign.{finite}
+use Rattle.float.proofs.Finite.{both-true}
+use Rattle.float.proofs.Keys.{key-below, key-not-below, below-of-keys, keyed}
+
+-- ---- three finite floats, by their keys
+
+finite-under : (a b l : Float) → finite a ≡ true → finite b ≡ true → finite l ≡ true → lt a b ≡ true → lt b l ≡ true → lt a l ≡ true
+finite-under a b l p q r e h =
+    let g = keyed a b l p q r in
+    let i = key-below (g .L) (g .K) a b (g .one) (g .two) e in
+    let j = key-below (g .L) (g .K) b l (g .two) (g .three) h in
+    below-of-keys (g .L) (g .K) a l (g .one) (g .three) (omega arith)
+
+finite-not-above : (b x l : Float) → finite b ≡ true → finite x ≡ true → finite l ≡ true → lt b x ≡ false → lt b l ≡ true → lt x l ≡ true
+finite-not-above b x l p q r e h =
+    let g = keyed b x l p q r in
+    let i = key-not-below (g .L) (g .K) b x (g .one) (g .two) e in
+    let j = key-below (g .L) (g .K) b l (g .one) (g .three) h in
+    below-of-keys (g .L) (g .K) x l (g .two) (g .three) (omega arith)
+
+-- ---- any floats
+
+pub under : (a b l : Float) → finite l ≡ true → lt a b ≡ true → lt b l ≡ true → lt a l ≡ true
+unfolding lt finite
+under a b nan f e h = absurd (false≢true f)
+under a b (inf u) f e h = absurd (false≢true f)
+under nan b (fin u k g) f e h = absurd (false≢true e)
+under (inf s) nan (fin u k g) f e h = absurd (false≢true e)
+under (inf s) (inf t) (fin u k g) f e h = both-true s (not t) e .0
+under (inf s) (fin t n d) (fin u k g) f e h = e
+under (fin s m i) nan (fin u k g) f e h = absurd (false≢true e)
+under (fin s m i) (inf true) (fin u k g) f e h = absurd (false≢true e)
+under (fin s m i) (inf false) (fin u k g) f e h = absurd (false≢true h)
+under (fin s m i) (fin t n d) (fin u k g) f e h = finite-under (fin s m i) (fin t n d) (fin u k g) refl refl refl e h
+
+pub not-above : (b x l : Float) → finite l ≡ true → isNan x ≡ false → lt b x ≡ false → lt b l ≡ true → lt x l ≡ true
+unfolding lt finite isNan
+not-above b x nan f n e h = absurd (false≢true f)
+not-above b x (inf u) f n e h = absurd (false≢true f)
+not-above nan x (fin u k g) f n e h = absurd (false≢true h)
+not-above (inf s) nan (fin u k g) f n e h = absurd (true≢false n)
+not-above (inf true) (inf true) (fin u k g) f n e h = refl
+not-above (inf true) (inf false) (fin u k g) f n e h = absurd (true≢false e)
+not-above (inf false) (inf t) (fin u k g) f n e h = absurd (false≢true h)
+not-above (inf s) (fin t m d) (fin u k g) f n e h = absurd (true≢false (sym h ∙ e))
+not-above (fin s m i) nan (fin u k g) f n e h = absurd (true≢false n)
+not-above (fin s m i) (inf true) (fin u k g) f n e h = refl
+not-above (fin s m i) (inf false) (fin u k g) f n e h = absurd (true≢false e)
+not-above (fin s m i) (fin t q d) (fin u k g) f n e h = finite-not-above (fin s m i) (fin t q d) (fin u k g) refl refl refl e h
+
+-- ---- numbers that are no NaN: finite ones, and their sums
+
+pub finite-no-nan : (x : Float) → finite x ≡ true → isNan x ≡ false
+unfolding finite isNan
+finite-no-nan nan e = absurd (false≢true e)
+finite-no-nan (inf s) e = refl
+finite-no-nan (fin s m e) h = refl
+
+no-nan-of : (t : Bool) (x y : Float) → isNan x ≡ false → isNan y ≡ false → isNan (cond t x y) ≡ false
+no-nan-of true x y p q = p
+no-nan-of false x y p q = q
+
+odd-no-nan : (d : ℕ) (s : Bool) (q k l : ℕ) → isNan (odd d s q k l) ≡ false
+unfolding odd isNan
+odd-no-nan d s zero k l = refl
+odd-no-nan d s (suc q) k l = refl
+
+units-no-nan : (f : Format) (s : Bool) (q k : ℕ) → isNan (units f s q k) ≡ false
+unfolding units isNan
+units-no-nan f s q k = no-nan-of (ltb (q * 2 ^ k) (2 ^ (low f + suc (emax f)))) (odd (suc (prec f)) s q k (low f)) (inf s) (odd-no-nan (suc (prec f)) s q k (low f)) refl
+
+round-no-nan : (f : Format) (s : Bool) (n d : ℕ) → isNan (round f s n d) ≡ false
+unfolding round
+round-no-nan f s n d = units-no-nan f s _ _
+
+sum-no-nan : (f : Format) (s : Bool) (a : ℕ) (t : Bool) (b c : ℕ) → isNan (sum f s a t b c) ≡ false
+unfolding sum
+sum-no-nan f s a t b c =
+    no-nan-of (Bool·beq s t) _ _ (round-no-nan f s (a + b) c) (no-nan-of (ltb a b) _ _ (round-no-nan f t (b - a) c) (round-no-nan f (s && ltb b a) (a - b) c))
+
+pub add-no-nan : (f : Format) (x y : Float) → finite x ≡ true → finite y ≡ true → isNan (add f x y) ≡ false
+unfolding add finite
+add-no-nan f nan y p q = absurd (false≢true p)
+add-no-nan f (inf s) y p q = absurd (false≢true p)
+add-no-nan f (fin s m e) nan p q = absurd (false≢true q)
+add-no-nan f (fin s m e) (inf t) p q = absurd (false≢true q)
+add-no-nan f (fin s m e) (fin t n d) p q = sum-no-nan f s _ t _ _
+
+-- ---- the limit of the settled test
+
+pub limit-finite : (f : Format) → finite (limitF f) ≡ true
+unfolding finite ofBits
+limit-finite binary32 = refl
+limit-finite binary64 = refl
