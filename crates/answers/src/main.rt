@@ -64,7 +64,7 @@ fn answer_whole(buf: &[u8], out: &mut [u8], total: usize) -> usize
 }
 
 // Answers and writes the whole requests among the first `total` bytes, and keeps the rest.
-fn answered(buf: &mut [u8], out: &mut [u8], total: usize, written: u64) -> Ended
+fn serve(buf: &mut [u8], out: &mut [u8], total: usize, written: u64) -> Ended
     requires { ⌜ Large (now buf) × Large (now out) × (total ≤ room F) × (written < 9223372036854775808) ⌝ }
     ensures { λ t. ⌜ (t .kept < requestSize F) × (t .written ≤ written + batch F) ⌝ }
 {
@@ -122,7 +122,7 @@ fn round(buf: &mut [u8], out: &mut [u8], have: usize, written: u64) -> Ended
         return stopped(written);
     }
     let came = io::count(got, &buf[have..ROOM]);
-    answered(buf, out, have + came, written)
+    serve(buf, out, have + came, written)
 }
 
 fn main() {

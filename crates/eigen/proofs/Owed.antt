@@ -1,4 +1,5 @@
--- What the four calls owe: each is a judged call, so its code is exactly that of its tests; and its lists are full, of numbers that the tests or their places in a
+-- What the four calls owe: each is a judged call, so its code is exactly that of its tests; and its lists are full, of numbers that the tests or their places
+-- in a
 -- tested matrix say to be finite.
 use mathlib.Core.Path.{_≡_, refl}
 use mathlib.Core.List.{List}

@@ -33,13 +33,15 @@ own-size a P23 = refl
 pub settled-finite : (f : Format) (a : List Float) → length a ≡ 6 → allFinite a ≡ true → Exactly (settledOf f a ≡ true) (AllUnder f a)
 unfolding settledOf
 settled-finite f a n e =
-    let size : (x : Float) → finite x ≡ true → isNan (magnitudeOf x) ≡ false = λ (x : Float) (h : finite x ≡ true). finite-no-nan (magnitudeOf x) (magnitude-finite x h) in
+    let size : (x : Float) → finite x ≡ true → isNan (magnitudeOf x) ≡ false =
+    λ (x : Float) (h : finite x ≡ true). finite-no-nan (magnitudeOf x) (magnitude-finite x h) in
     let g = at-finite a e in
     let u = all-under _ _ _ (limitF f) (limit-finite f) (size (apq P13 a) (g 3 (omega arith))) (size (apq P23 a) (g 4 (omega arith))) in
     ((λ h x. sym (ap (λ (y : Float). lt y (limitF f)) (own-size a x)) ∙ u .0 h x), (λ h. u .1 (λ x. ap (λ (y : Float). lt y (limitF f)) (own-size a x) ∙ h x)))
 
 -- of the answer, and of the call: of any answer within the promise that the source states
-pub settled-means : (f : Format) (a : List Float) → length a ≡ 6 → eigenOf f a .code ≡ 0 → Exactly (eigenOf f a .settled ≡ true) (AllUnder f (eigenOf f a .worked))
+pub settled-means : (f : Format) (a : List Float) → length a ≡ 6 → eigenOf f a .code ≡ 0
+    → Exactly (eigenOf f a .settled ≡ true) (AllUnder f (eigenOf f a .worked))
 settled-means f a n e =
     let s = lastOf f a in
     let g = answered f a e in

@@ -36,7 +36,8 @@ columnOf v c = tabulate 3 (λ (r : ℕ). entryOf 3 v r c)
 abbrev pub ColumnsExchanged : List Float → List Float → Type 0
 ColumnsExchanged v w = (columnOf v 0 ≡ columnOf w 2) × (columnOf v 1 ≡ columnOf w 1) × (columnOf v 2 ≡ columnOf w 0)
 
--- The codes, what the runs made, and the marks are the same. With code 0 the values are exchanged and negated; and if no two of them are equal, the columns are exchanged.
+-- The codes, what the runs made, and the marks are the same. With code 0 the values are exchanged and negated; and if no two of them are equal, the columns are
+-- exchanged.
 pub record Reversed (r q : EigenAnswer) : Type 0 where
   pub codes : r .code ≡ q .code
   pub made : r .made ≡ q .made

@@ -21,7 +21,8 @@ ghost use lib.Ieee.{lt};
 ghost use Rattle.float.specs.Width.{F};
 ghost use Rattle.float.specs.Constants.{limitF};
 ghost use Rattle.float.specs.Judged.{judged};
-ghost use Rattle.eigen.specs.Eigen3x3.{working, bare, ofWorking, ofBare, settledOf, lastOf, bareLastOf, sorted, rankedOf, eigen3, refusedEigen, numbersOf, answerOf, eigenOf, eigvals3, refusedValues, valuesOf, eigvalsOf};
+ghost use Rattle.eigen.specs.Eigen3x3.{working, bare, ofWorking, ofBare, settledOf, lastOf, bareLastOf, sorted, rankedOf, eigen3, refusedEigen};
+ghost use Rattle.eigen.specs.Eigen3x3.{numbersOf, answerOf, eigenOf, eigvals3, refusedValues, valuesOf, eigvalsOf};
 
 // A working state.
 pub struct Working {

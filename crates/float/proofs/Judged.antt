@@ -1,4 +1,5 @@
--- A branch on the finite test is one way through `judged`, and what holds of both ways holds of it: `judged` is a choice by that test. A call has three ways, and
+-- A branch on the finite test is one way through `judged`, and what holds of both ways holds of it: `judged` is a choice by that test. A call has three ways,
+-- and
 -- only the one on which nothing is refused leaves code 0.
 use mathlib.Core.Path.{_≡_, refl, sym, _∙_}
 use mathlib.Core.Bool.{Bool, true, false}

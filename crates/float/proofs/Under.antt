@@ -75,7 +75,9 @@ odd-no-nan d s (suc q) k l = refl
 
 units-no-nan : (f : Format) (s : Bool) (q k : ℕ) → isNan (units f s q k) ≡ false
 unfolding units isNan
-units-no-nan f s q k = no-nan-of (ltb (q * 2 ^ k) (2 ^ (low f + suc (emax f)))) (odd (suc (prec f)) s q k (low f)) (inf s) (odd-no-nan (suc (prec f)) s q k (low f)) refl
+units-no-nan f s q k =
+    no-nan-of (ltb (q * 2 ^ k) (2 ^ (low f + suc (emax f)))) (odd (suc (prec f)) s q k (low f)) (inf s)
+    (odd-no-nan (suc (prec f)) s q k (low f)) refl
 
 round-no-nan : (f : Format) (s : Bool) (n d : ℕ) → isNan (round f s n d) ≡ false
 unfolding round

@@ -108,7 +108,8 @@ module _ {C : Type 0} {n : ℕ} {Follows : Permutation n → C → C → Type 0}
 
 -- ---- columns are finite after a move exactly where they were before
 
-module _ {n : ℕ} {x y : Ranked (List Float)} (m : Moved n (ColumnsFollow n) x y) (before : length (x .carried) ≡ n * n) (after : length (y .carried) ≡ n * n) where
+module _ {n : ℕ} {x y : Ranked (List Float)} (m : Moved n (ColumnsFollow n) x y)
+    (before : length (x .carried) ≡ n * n) (after : length (y .carried) ≡ n * n) where
   pub columns-finite : allFinite (x .carried) ≡ allFinite (y .carried)
   columns-finite =
       finite-together (x .carried) (y .carried)
@@ -117,7 +118,8 @@ module _ {n : ℕ} {x y : Ranked (List Float)} (m : Moved n (ColumnsFollow n) x 
       (λ e. entries-finite n (x .carried) before (λ r c k l.
       let b = m .by .back c in
       let h = m .by .back-below c l in
-      subst (λ (v : Float). finite v ≡ true) (m .carried r b k h ∙ ap (entryOf n (x .carried) r) (m .by .to-back c)) (entry-finite n (y .carried) after e r b k h)))
+      subst (λ (v : Float). finite v ≡ true) (m .carried r b k h ∙ ap (entryOf n (x .carried) r) (m .by .to-back c))
+      (entry-finite n (y .carried) after e r b k h)))
 
 -- ---- what an exchange keeps the order keeps
 

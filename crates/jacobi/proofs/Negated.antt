@@ -1,5 +1,6 @@
 -- The rotation chosen for a pair is the same, to the bit, for the pair negated: every test reads magnitudes or compares with zero, and theta is a quotient of
--- two numbers that both change sign. The one thing that could tell the two apart is the sign of a zero. It never reaches theta: where the diagonal's difference is zero
+-- two numbers that both change sign. The one thing that could tell the two apart is the sign of a zero. It never reaches theta: where the diagonal's difference
+-- is zero
 -- the 45 degree rotation is taken, since epsilon times the larger diagonal number, itself no less than epsilon, does not vanish.
 use mathlib.Core.Path.{_≡_, refl, sym, ap, _∙_}
 use mathlib.Core.Bool.{Bool, true, false, not, Bool·beq, cond, false≢true}
@@ -29,7 +30,8 @@ unfolding finite
 no-infinite true s h = false≢true h
 no-infinite false s h = false≢true h
 
-level-of-zero : (f : Format) (a q : Float) → eq (sub f q a) (zeroF f) ≡ true → finite (sub f q a) ≡ true → tinyDiagonal f a q ≡ false → levelDiagonal f a q ≡ true
+level-of-zero : (f : Format) (a q : Float) → eq (sub f q a) (zeroF f) ≡ true → finite (sub f q a) ≡ true → tinyDiagonal f a q ≡ false
+    → levelDiagonal f a q ≡ true
 unfolding sub neg add finite magnitudeOf
 level-of-zero f nan nan h i = absurd (false≢true i)
 level-of-zero f nan (inf t) h i = absurd (false≢true i)

@@ -10,7 +10,8 @@ use Rattle.jacobi.proofs.rotation.compute_jacobi_rotation.Reads as comp
 use Rattle.jacobi.proofs.pairs.largest.Reads as largest
 use Rattle.jacobi.proofs.pairs.turn_columns.Reads as turn-columns
 
-pub one-compute-jacobi-rotation : (apq app aqq : Float) → OneAnswer (λ (r : Rotation). compute-jacobi-rotation.Post tt (apq, (app, (aqq, tt))) r (apq, (app, (aqq, tt))))
+pub one-compute-jacobi-rotation : (apq app aqq : Float)
+    → OneAnswer (λ (r : Rotation). compute-jacobi-rotation.Post tt (apq, (app, (aqq, tt))) r (apq, (app, (aqq, tt))))
 one-compute-jacobi-rotation apq app aqq = named _
 
 pub one-largest : (x12 x13 x23 : Float) → OneAnswer (λ (r : OffDiag). largest.Post tt (x12, (x13, (x23, tt))) r (x12, (x13, (x23, tt))))

@@ -32,5 +32,5 @@ abbrev pub uv : Sym3Answer → Val
 uv = struct.val U.the-type U′.the-laws
 
 -- what the definition gives for a matrix
-abbrev pub answered : Sym3 → Pair → Rotation → Sym3Answer
-answered a p r = sym3Answer (rotatedOf F p r (a .«data»))
+abbrev pub checked : Sym3 → Pair → Rotation → Sym3Answer
+checked a p r = sym3Answer (rotatedOf F p r (a .«data»))

@@ -1,4 +1,5 @@
--- Settled means that the sums of all three pairs are under the limit: the test reads the largest of them. A sum of two magnitudes may overflow, but it is no NaN.
+-- Settled means that the sums of all three pairs are under the limit: the test reads the largest of them. A sum of two magnitudes may overflow, but it is no
+-- NaN.
 use mathlib.Core.Path.{_≡_, refl, sym, ap, _∙_}
 use mathlib.Core.Bool.{true, false}
 use mathlib.Core.List.{List}
@@ -19,7 +20,7 @@ use Rattle.jacobi.specs.declared.pairs.Pair.{Pair}
 use Rattle.jacobi.specs.declared.pairs.Pair.the-variants.{P12, P13, P23}
 use Rattle.jacobi.proofs.Largest.{all-under}
 use Rattle.svd.specs.Pairs.{sizeOf}
-use Rattle.svd.specs.Svd3x3.{settledOf, lastOf, factorsOf, svdOf}
+use Rattle.svd.specs.Svd3x3.{settledOf, lastOf, svdOf}
 use Rattle.svd.specs.Counted.{AllUnder}
 use Rattle.svd.specs.declared.svd3x3.Svd3.{Svd3}
 use Rattle.svd.proofs.Answered.{answered}
@@ -38,8 +39,10 @@ settled-finite f a n e =
     let g : (i : ℕ) → i < 9 → finite (magnitudeOf (at a i)) ≡ true = λ (i : ℕ) (l : i < 9). magnitude-finite (at a i) (at-finite a e i (omega arith)) in
     let no : (i j : ℕ) → i < 9 → j < 9 → isNan (add f (magnitudeOf (at a i)) (magnitudeOf (at a j))) ≡ false =
     λ (i j : ℕ) (l : i < 9) (m : j < 9). add-no-nan f _ _ (g i l) (g j m) in
-    let u = all-under _ _ _ (limitF f) (limit-finite f) (no 6 2 (omega arith) (omega arith)) (no 7 5 (omega arith) (omega arith)) in
-    ((λ h x. sym (ap (λ (y : Float). lt y (limitF f)) (own-size f a x)) ∙ u .0 h x), (λ h. u .1 (λ x. ap (λ (y : Float). lt y (limitF f)) (own-size f a x) ∙ h x)))
+    let u = all-under _ _ _ (limitF f) (limit-finite f) (no 6 2 (omega arith) (omega arith)) (no 7 5 (omega arith) (omega arith)) in (
+      (λ h x. sym (ap (λ (y : Float). lt y (limitF f)) (own-size f a x)) ∙ u .0 h x),
+      (λ h. u .1 (λ x. ap (λ (y : Float). lt y (limitF f)) (own-size f a x) ∙ h x)),
+    )
 
 -- of the answer, and of the call: of any answer within the promise that the source states
 pub settled-means : (f : Format) (a : List Float) → length a ≡ 9 → svdOf f a .code ≡ 0 → Exactly (svdOf f a .settled ≡ true) (AllUnder f (svdOf f a .worked))

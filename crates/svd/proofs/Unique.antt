@@ -25,22 +25,27 @@ use Rattle.svd.proofs.svd3x3.svd.Reads as svd3x3-svd
 pub one-hypot-fast : (x y : Float) → OneAnswer (λ (r : Float). hypot-fast.Post tt (x, (y, tt)) r (x, (y, tt)))
 one-hypot-fast x y = named _
 
-pub one-compute-polar-2x2 : (app aqp apq aqq : Float) → OneAnswer (λ (r : Polar). compute-polar-2x2.Post tt (app, (aqp, (apq, (aqq, tt)))) r (app, (aqp, (apq, (aqq, tt)))))
+pub one-compute-polar-2x2 : (app aqp apq aqq : Float)
+    → OneAnswer (λ (r : Polar). compute-polar-2x2.Post tt (app, (aqp, (apq, (aqq, tt)))) r (app, (aqp, (apq, (aqq, tt)))))
 one-compute-polar-2x2 app aqp apq aqq = named _
 
-pub one-compute-two-sided-rotation : (app aqp apq aqq : Float) → OneAnswer (λ (r : TwoSided). compute-two-sided-rotation.Post tt (app, (aqp, (apq, (aqq, tt)))) r (app, (aqp, (apq, (aqq, tt)))))
+pub one-compute-two-sided-rotation : (app aqp apq aqq : Float)
+    → OneAnswer (λ (r : TwoSided). compute-two-sided-rotation.Post tt (app, (aqp, (apq, (aqq, tt)))) r (app, (aqp, (apq, (aqq, tt)))))
 one-compute-two-sided-rotation app aqp apq aqq = named _
 
 pub one-find-largest-off-diag-nonsym : (a : Mat3) → OneAnswer (λ (r : OffDiag). find-largest-off-diag-nonsym.Post tt (a, tt) r (a, tt))
 one-find-largest-off-diag-nonsym a = named _
 
-pub one-apply-two-sided-rotation : (a : Mat3) (p : Pair) (t : TwoSided) → OneAnswer (λ (r : Mat3). apply-two-sided-rotation.Post tt (a, (p, (t, tt))) r (a, (p, (t, tt))))
+pub one-apply-two-sided-rotation : (a : Mat3) (p : Pair) (t : TwoSided)
+    → OneAnswer (λ (r : Mat3). apply-two-sided-rotation.Post tt (a, (p, (t, tt))) r (a, (p, (t, tt))))
 one-apply-two-sided-rotation a p t = named _
 
-pub one-fix-order-and-signs-3x3 : (a b c : Float) (u v : Mat3) → OneAnswer (λ (r : Factors3). fix-order-and-signs-3x3.Post tt (a, (b, (c, (u, (v, tt))))) r (a, (b, (c, (u, (v, tt))))))
+pub one-fix-order-and-signs-3x3 : (a b c : Float) (u v : Mat3)
+    → OneAnswer (λ (r : Factors3). fix-order-and-signs-3x3.Post tt (a, (b, (c, (u, (v, tt))))) r (a, (b, (c, (u, (v, tt))))))
 one-fix-order-and-signs-3x3 a b c u v = named _
 
-pub one-set-order-and-signs-2x2 : (a b : Float) (u v : Mat2) → OneAnswer (λ (r : Factors2). set-order-and-signs-2x2.Post tt (a, (b, (u, (v, tt)))) r (a, (b, (u, (v, tt)))))
+pub one-set-order-and-signs-2x2 : (a b : Float) (u v : Mat2)
+    → OneAnswer (λ (r : Factors2). set-order-and-signs-2x2.Post tt (a, (b, (u, (v, tt)))) r (a, (b, (u, (v, tt)))))
 one-set-order-and-signs-2x2 a b u v = named _
 
 pub one-svd2x2-svd : (a : Mat2) → OneAnswer (λ (r : Svd2). svd2x2-svd.Post tt (a, tt) r (a, tt))

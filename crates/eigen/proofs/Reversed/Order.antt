@@ -101,7 +101,8 @@ module _ (L K : ℕ) (w w' : Ranked (List Float)) (fine : (c : ℕ) → c < 3 �
       opposed c h = opposite L K _ _ (sorted-fine L K w fine c h) (sorted-fine L K w' fine' (2 - c) (omega arith)) (sorted-mirror c h)
 
   -- With the same columns: the value at 2 - c of w' stood at d, and so did the value at c of w, whose key is the mirror image.
-  column-same : w .carried ≡ w' .carried → AllDiffer (rankOf w .values) → (c : ℕ) → c < 3 → columnOf (rankOf w .carried) c ≡ columnOf (rankOf w' .carried) (2 - c)
+  column-same : w .carried ≡ w' .carried → AllDiffer (rankOf w .values) → (c : ℕ) → c < 3
+      → columnOf (rankOf w .carried) c ≡ columnOf (rankOf w' .carried) (2 - c)
   column-same same n c h =
       let m = rank-moves w in
       let m' = rank-moves w' in

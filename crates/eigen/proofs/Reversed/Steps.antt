@@ -1,4 +1,5 @@
--- Two matrices that are the same or negated, place by place, stay so through every rotation: the tests and the rotation are the same for both, and what a rotation
+-- Two matrices that are the same or negated, place by place, stay so through every rotation: the tests and the rotation are the same for both, and what a
+-- rotation
 -- makes of a matrix is sums and products that keep signs apart. So both runs make as many rotations and turn the vectors alike.
 use mathlib.Core.Path.{_≡_, ap, subst₂, _∙_}
 use mathlib.Core.Bool.{Bool}
@@ -23,7 +24,8 @@ use Rattle.eigen.specs.Eigen3x3.{State, settledOf, nextMatrix, nextVecto
 -- ---- a packed matrix and the same or its negation
 
 pub data Related (b : Bool) : List Float → List Float → Type 0 where
-  six : {x11 x12 x22 x13 x23 x33 y11 y12 y22 y13 y23 y33 : Float} → Rel b x11 y11 → Rel b x12 y12 → Rel b x22 y22 → Rel b x13 y13 → Rel b x23 y23 → Rel b x33 y33
+  six : {x11 x12 x22 x13 x23 x33 y11 y12 y22 y13 y23 y33 : Float} → Rel b x11 y11 → Rel b x12 y12 → Rel b x22 y22 → Rel b x13 y13 → Rel b x23 y23
+      → Rel b x33 y33
       → Related b (x11 ∷ x12 ∷ x22 ∷ x13 ∷ x23 ∷ x33 ∷ []) (y11 ∷ y12 ∷ y22 ∷ y13 ∷ y23 ∷ y33 ∷ [])
 
 pub all-finite-same : {b : Bool} {x y : List Float} → Related b x y → allFinite x ≡ allFinite y
@@ -62,7 +64,9 @@ unfolding settledOf
 settled-same f r = ap (λ (o : OffDiag). lt (o .size) (limitF f)) (largest-same r)
 
 chosen-same : {b : Bool} {x y : List Float} (f : Format) → Related b x y → chosenOf f x ≡ chosenOf f y
-chosen-same {b} {x} {y} f r = rotation-same f (apq-rel (pairOf x) r) (app-rel (pairOf x) r) (aqq-rel (pairOf x) r) ∙ ap (λ (p : Pair). turnOf f p y) (pair-same r)
+chosen-same {b} {x} {y} f r =
+    rotation-same f (apq-rel (pairOf x) r) (app-rel (pairOf x) r) (aqq-rel (pairOf x) r)
+    ∙ ap (λ (p : Pair). turnOf f p y) (pair-same r)
 
 -- ---- one rotation
 
@@ -84,7 +88,8 @@ module _ (f : Format) (t : Rotation) {b : Bool} where
 matrix-rel : {b : Bool} {x y : List Float} (f : Format) → Related b x y → Related b (nextMatrix f x) (nextMatrix f y)
 unfolding nextMatrix
 matrix-rel {b} {x} {y} f r =
-    subst₂ (λ (p : Pair) (t : Rotation). Related b (appliedOf f (pairOf x) (chosenOf f x) x) (appliedOf f p t y)) (pair-same r) (chosen-same f r) (applied-rel f (chosenOf f x) (pairOf x) r)
+    subst₂ (λ (p : Pair) (t : Rotation). Related b (appliedOf f (pairOf x) (chosenOf f x) x) (appliedOf f p t y))
+    (pair-same r) (chosen-same f r) (applied-rel f (chosenOf f x) (pairOf x) r)
 
 vectors-same : {b : Bool} {x y : List Float} (f : Format) (v : List Float) → Related b x y → nextVectors f x v ≡ nextVectors f y v
 unfolding nextVectors

@@ -54,7 +54,7 @@ use Rattle.jacobi.proofs.pairs.Pair as P
 use Rattle.jacobi.proofs.pairs.Pair.Laws as P′
 use Rattle.jacobi.proofs.rotation.Rotation as R
 use Rattle.jacobi.proofs.rotation.Rotation.Laws as R′
-use Rattle.lent.proofs.Values.{sv, pv, rv, uv, answered}
+use Rattle.lent.proofs.Values.{sv, pv, rv, uv, checked}
 use Rattle.lent.proofs.rotate_in_place as entry
 use Rattle.lent.proofs.rotate_in_place.Symbol as entry-def
 use Rattle.lent.proofs.rotate_in_place.Symbol.{name as #lent·rotate-in-place}
@@ -100,7 +100,7 @@ module _ {M : Type 1} (𝓤 : URA M) (H : Heap 𝓤) (A : Atoms 𝓤) (W : Given
   Post = walkOf 𝓤 H A rotate.ended stayed (rotate.clauses 𝓤 H A at-mem run) .post ((tt, tt, tt, (h, (p, (z, tt))), at), tt)
 
   -- the answer u, if it is the definition's, is what the contract asks for
-  exits : (u : Sym3Answer) → Is U.the-row u (uv u ∷ []) → u ≡ answered h p z → ent 𝓤 (emp 𝓤) (Post (uv u))
+  exits : (u : Sym3Answer) → Is U.the-row u (uv u ∷ []) → u ≡ checked h p z → ent 𝓤 (emp 𝓤) (Post (uv u))
   exits u g e =
       qed W [] ∵
       suffices ! _ (ends-at 𝓤 H A rotate.ended stayed (rotate.clauses 𝓤 H A at-mem run) W
@@ -154,9 +154,9 @@ module _ {M : Type 1} (𝓤 : URA M) (H : Heap 𝓤) (A : Atoms 𝓤) (W : Given
         (id⊢ 𝓤 _) $ await ! tt $ pick ! (λ r.
         split ! $ move ! (1 ∷ []) $
         use1 W (some (λ (ws : Sym3 × (Unit {0} × (Unit {0} × Unit {0}))). ‵ (lasts entry.ended (ν ∷ [], tt) (lent l₄ δ, (p, (z, tt))) ws)
-        ⊛ raw (fact 𝓤 ((r ≡ answered h p z .code) × (ws .0 ≡ answered h p z .matrix)))))
+        ⊛ raw (fact 𝓤 ((r ≡ checked h p z .code) × (ws .0 ≡ checked h p z .matrix)))))
         (id⊢ 𝓤 _) $ pick ! (λ ws.
-        split ! $ move ! (1 ∷ []) $ heard ! ((r ≡ answered h p z .code) × (ws .0 ≡ answered h p z .matrix)) (λ e. fsplit ! $ move ! (1 ∷ []) $ drop ! $
+        split ! $ move ! (1 ∷ []) $ heard ! ((r ≡ checked h p z .code) × (ws .0 ≡ checked h p z .matrix)) (λ e. fsplit ! $ move ! (1 ∷ []) $ drop ! $
         move ! (1 ∷ []) $ split ! $ move ! (1 ∷ []) $ peeks ! u8 (Is u8) (shows 𝓤 H A u8) r (v ∷ []) (λ is.
         land ! (from ! (stop !)) (init ! 8 refl (uint-lawful 𝓤 H A W w8 .typed r _ is .0)) $
         rewrite ! 8 (λ (u : Val). ‵ (fat fullShare (tyInt w8) l₅ 0 u)) (ap only (is .0)) refl $ drop ! $

@@ -53,7 +53,7 @@ use Rattle.jacobi.proofs.pairs.Pair as P
 use Rattle.jacobi.proofs.pairs.Pair.Laws as P′
 use Rattle.jacobi.proofs.rotation.Rotation as R
 use Rattle.jacobi.proofs.rotation.Rotation.Laws as R′
-use Rattle.lent.proofs.Values.{sv, pv, rv, answered}
+use Rattle.lent.proofs.Values.{sv, pv, rv, checked}
 use Rattle.lent.proofs.rotated as rotated
 use Rattle.lent.proofs.rotated.Symbol as rotated-def
 use Rattle.lent.proofs.rotated.Symbol.{name as #lent·rotated}
@@ -93,7 +93,7 @@ module _ {M : Type 1} (𝓤 : URA M) (H : Heap 𝓤) (A : Atoms 𝓤) (W : Given
   Post = walkOf 𝓤 H A entry.ended stayed (entry.clauses 𝓤 H A at-mem run) .post (((κ, tt), (q, tt), tt, x, at), tt)
 
   -- what is left when `rotated` gave r is what the contract asks for
-  exits : (r : Sym3Answer) → r .code < 2 ^ 8 → r ≡ answered h p z
+  exits : (r : Sym3Answer) → r .code < 2 ^ 8 → r ≡ checked h p z
       → ent 𝓤 (sep 𝓤 (A .obs γ (S.the-row .coded .code (r .matrix))) (sep 𝓤 (A .bor κ (Body (mem S.the-row) b o γ)) (A .lft κ q))) (Post (vint w8 (r .code)))
   exits r fits e =
       qed W (‵ (fobs γ (S.the-row .coded .code (r .matrix))) ∷ ‵ (fbor κ (Body (mem S.the-row) b o γ)) ∷ ‵ (flft κ q) ∷ []) ∵
@@ -116,8 +116,8 @@ module _ {M : Type 1} (𝓤 : URA M) (H : Heap 𝓤) (A : Atoms 𝓤) (W : Given
       owned ! S.the-row (Is S.the-row) (struct.makes S.the-type S′.the-plain 𝓤 H A) h _ gh $ fjoin ! $ nothing ! $ join ! $ frame ! $ done !
 
   -- of what `rotated` ensures, the clause alone
-  said : (r : Sym3Answer) → ent 𝓤 (ensured 𝓤 H A rotated.ended (rotated.clauses 𝓤 H A at-mem run) tt (h, (p, (z, tt))) tt r) (fact 𝓤 (r ≡ answered h p z))
-  said r = exE 𝓤 _ (λ ws. snd∗ 𝓤 (sem 𝓤 H A (lasts rotated.ended tt (h, (p, (z, tt))) ws)) (fact 𝓤 (r ≡ answered h p z)))
+  said : (r : Sym3Answer) → ent 𝓤 (ensured 𝓤 H A rotated.ended (rotated.clauses 𝓤 H A at-mem run) tt (h, (p, (z, tt))) tt r) (fact 𝓤 (r ≡ checked h p z))
+  said r = exE 𝓤 _ (λ ws. snd∗ 𝓤 (sem 𝓤 H A (lasts rotated.ended tt (h, (p, (z, tt))) ws)) (fact 𝓤 (r ≡ checked h p z)))
 
   module _ (C : Calls 𝓤 H) (Λ : Loops 𝓤 H) (fm : FmC 𝓤 H (W .laws) C) (known : Triple 𝓤 (C #lent·rotated) (Called 𝓤 H A at-mem run)) where
     walk : ent 𝓤 (onEntry 𝓤 H A entry.signature (κ, tt) (q, tt) x at) (WpFn 𝓤 H C Λ code.function (vptr b o ∷ pv p ∷ rv z ∷ []) Post)
@@ -143,7 +143,7 @@ module _ {M : Type 1} (𝓤 : URA M) (H : Heap 𝓤) (A : Atoms 𝓤) (W : Given
         use1 W (later (some (λ (r : Sym3Answer). (‵ ftrue ⊛ ‵ (U.the-row .own r (v ∷ [])))
         ⊛ raw (ensured 𝓤 H A rotated.ended (rotated.clauses 𝓤 H A at-mem run) tt (h, (p, (z, tt))) tt r))))
         (id⊢ 𝓤 _) $ await ! tt $ pick ! (λ r.
-        split ! $ move ! (1 ∷ []) $ use1 W (raw (fact 𝓤 (r ≡ answered h p z))) (said r) $ heard ! (r ≡ answered h p z) (λ e. split ! $ drop ! $
+        split ! $ move ! (1 ∷ []) $ use1 W (raw (fact 𝓤 (r ≡ checked h p z))) (said r) $ heard ! (r ≡ checked h p z) (λ e. split ! $ drop ! $
         peeks ! U.the-row (Is U.the-row) (shows 𝓤 H A U.the-row) r (v ∷ []) (λ is.
         land ! (from ! (stop !)) (init ! 6 refl (struct.lawful U.the-type U′.the-laws 𝓤 H A W .typed r _ is .0)) $
         rewrite ! 6 (λ (u : Val). ‵ (fat fullShare U′.mir l₅ 0 u)) (ap only (struct.tells U.the-type U′.the-laws r _ is)) refl $

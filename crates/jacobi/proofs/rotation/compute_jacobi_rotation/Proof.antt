@@ -35,7 +35,8 @@ returns-4 c =
     c .turned-by .ensures
     ∙ ap (turnBy F) (c .before .tangent .ensures)
     ∙ sym
-    (turns F (a .apq) (a .app) (a .aqq) (c .before .before .before .before .before .before .before .before .if1 .left) (rw d at (c .before .before .before .before .if2 .left))
+    (turns F (a .apq) (a .app) (a .aqq) (c .before .before .before .before .before .before .before .before .if1 .left)
+    (rw d at (c .before .before .before .before .if2 .left))
     (rw (d, c .before .before .before .magnitude3 .ensures) at (c .before .before .if3 .left)))
 
 pub compute-jacobi-rotation-spec : {M : Type 1} → statement M

@@ -7,8 +7,13 @@ use Rattle.jacobi.proofs.rotation.tangent.Tie as tie
 returns : tie.Need-returns
 unfolding tangentOf
 returns c =
-    simp
-    (← c .before .before .before .before .is-finite .ensures, c .before .before .before .if1 .taken, c .before .before .signum .ensures, c .before .magnitude .ensures, c .root .ensures .is)
+    simp (
+      ← c .before .before .before .before .is-finite .ensures,
+      c .before .before .before .if1 .taken,
+      c .before .before .signum .ensures,
+      c .before .magnitude .ensures,
+      c .root .ensures .is,
+    )
 
 returns-2 : tie.Need-returns-2
 unfolding tangentOf

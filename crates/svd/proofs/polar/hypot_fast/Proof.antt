@@ -10,7 +10,8 @@ returns c = simp (c .hypot-of-sizes .ensures, ← c .before .before .magnitude2 
 
 returns-2 : tie.Need-returns-2
 unfolding hypotOf
-returns-2 c = simp (c .hypot-of-sizes2 .ensures, ← c .before .before .magnitude2 .ensures, ← c .before .before .before .magnitude .ensures, c .before .if1 .left)
+returns-2 c =
+    simp (c .hypot-of-sizes2 .ensures, ← c .before .before .magnitude2 .ensures, ← c .before .before .before .magnitude .ensures, c .before .if1 .left)
 
 pub hypot-fast-spec : {M : Type 1} → statement M
 hypot-fast-spec =

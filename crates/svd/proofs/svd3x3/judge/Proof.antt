@@ -22,7 +22,8 @@ returns c =
     let taken = c .before .before .before .before .before in
     let first = taken .before .before .before in
     let s = ofWorking (first .before .args .w) in
-    rw (stands (refusedSvd F) 7 (numbersOf s) (answerOf F s) (numbers (taken .before)) (taken .if1 .taken)) (rw (c .is-settled .ensures, first .factors .ensures))
+    rw (stands (refusedSvd F) 7 (numbersOf s) (answerOf F s) (numbers (taken .before)) (taken .if1 .taken))
+    (rw (c .is-settled .ensures, first .factors .ensures))
 
 returns-2 : tie.Need-returns-2
 returns-2 c =

@@ -2,8 +2,8 @@
 use borrow.Author.Needs.{needs}
 use native.Mathlib.Omega.{arith}
 use lib.ListN.{length-take}
-use Rattle.answers.proofs.answered.Statement.{statement}
-use Rattle.answers.proofs.answered.Tie as tie
+use Rattle.answers.proofs.serve.Statement.{statement}
+use Rattle.answers.proofs.serve.Tie as tie
 
 slice-aggregate-put : tie.Need-slice-aggregate-put
 slice-aggregate-put c = simp length-take (omega arith)
@@ -15,8 +15,8 @@ returns-2 c =
     let w = simp length-take at (c .before .before .before .before .before .put .ensures) in
     (omega arith, omega arith)
 
-pub answered-spec : {M : Type 1} → statement M
-answered-spec =
+pub serve-spec : {M : Type 1} → statement M
+serve-spec =
     tie.close
     (tie.spec
     (λ c κs. search needs)
