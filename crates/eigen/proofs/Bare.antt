@@ -15,9 +15,9 @@ use Rattle.jacobi.specs.Order.{ascending}
 use Rattle.jacobi.proofs.Run.{keeps}
 use Rattle.jacobi.proofs.Placed.{values-alone}
 use Rattle.eigen.specs.Eigen3x3.{State, BareState, settledOf, stepOf, bareStepOf, runOf, bareRunOf, startOf, lastOf, diagonal, alone, nothingSwapped}
-use Rattle.eigen.specs.Eigen3x3.{sort3Of, rankedOf, EigenAnswer, answerOf, endOf, eigenOf, ValuesAnswer, eigvals3, refusedValues, bareEndOf, eigvalsOf}
+use Rattle.eigen.specs.Eigen3x3.{sort3Of, rankedOf, answerOf, endOf, eigenOf, refusedValues, bareEndOf, eigvalsOf}
 use Rattle.eigen.specs.Ordered.{diagonalAxes}
-use Rattle.eigen.specs.Bare.{without, withoutVectors, VectorsLost, SameButVectors}
+use Rattle.eigen.specs.Bare.{withoutVectors, VectorsLost, SameButVectors}
 use Rattle.eigen.specs.declared.eigen3x3.Eigen3.{Eigen3}
 use Rattle.eigen.specs.declared.eigen3x3.EigVals3.{EigVals3}
 use Rattle.eigen.proofs.eigen3x3.eigen_jacobi.Reads as eigen-jacobi
@@ -64,8 +64,8 @@ module _ (f : Format) (a : List Float) where
 -- ---- the calls: any two answers within the promises that the source states
 
 pub same-calls : (a : Sym3) (r : Eigen3) (q : EigVals3) → eigen-jacobi.Post tt (a, tt) r (a, tt) → eigvals-jacobi.Post tt (a, tt) q (a, tt)
-    → (without r ≡ q) ⊎ (VectorsLost F (a .«data») × (r .code ≡ 7) × (q .code ≡ 0))
+    → (withoutVectors r ≡ q) ⊎ (VectorsLost F (a .«data») × (r .code ≡ 7) × (q .code ≡ 0))
 same-calls a r q p s =
     rw (p, s)
-    (⊎-elim (λ e. inl (ap eigvals3 e)) (λ l. inr (l .0, ap (λ (r : EigenAnswer). r .code) (l .1), ap (λ (q : ValuesAnswer). q .code) (l .2)))
+    (⊎-elim (λ e. inl e) (λ l. inr (l .0, ap (λ (r : Eigen3). r .code) (l .1), ap (λ (q : EigVals3). q .code) (l .2)))
     (same-but-vectors F (a .«data»)))

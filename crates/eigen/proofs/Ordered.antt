@@ -50,7 +50,7 @@ solved-in-order f a e =
 module _ (f : Format) (a : List Float) where
   -- A matrix of the source holds six numbers. Here its numbers are a list, so their count is a premise.
   pub in-order : length a ≡ 6 → eigenOf f a .code ≡ 0
-      → InOrder 3 (diagonalAxes (lastOf f a)) (record { values = eigenOf f a .values; carried = eigenOf f a .vectors })
+      → InOrder 3 (diagonalAxes (lastOf f a)) (record { values = eigenOf f a .values; carried = eigenOf f a .vectors .«data» })
   in-order n e =
       let s = lastOf f a in
       let d = answered f a e in
@@ -67,7 +67,7 @@ module _ (f : Format) (a : List Float) where
         values = sorts3 upward nothingSwapped (alone (diagonal x)) (diagonal-finite x (bare-filled f a n) (d .numbers));
       })
 
-  pub in-order2 : eigen2Of f a .code ≡ 0 → InOrder 2 (rotationAxes f a) (record { values = eigen2Of f a .values; carried = eigen2Of f a .vectors })
+  pub in-order2 : eigen2Of f a .code ≡ 0 → InOrder 2 (rotationAxes f a) (record { values = eigen2Of f a .values; carried = eigen2Of f a .vectors .«data» })
   in-order2 e =
       let x = solved2 f a in
       let d = answered2 f a e in

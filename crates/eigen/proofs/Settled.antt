@@ -41,7 +41,7 @@ settled-finite f a n e =
 
 -- of the answer, and of the call: of any answer within the promise that the source states
 pub settled-means : (f : Format) (a : List Float) → length a ≡ 6 → eigenOf f a .code ≡ 0
-    → Exactly (eigenOf f a .settled ≡ true) (AllUnder f (eigenOf f a .worked))
+    → Exactly (eigenOf f a .settled ≡ true) (AllUnder f (eigenOf f a .worked .«data»))
 settled-means f a n e =
     let s = lastOf f a in
     let g = answered f a e in

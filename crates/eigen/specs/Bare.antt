@@ -5,16 +5,12 @@ use mathlib.Core.Logic.{_⊎_}
 use mathlib.Core.List.{List}
 use lib.Ieee.{Float, Format}
 use Rattle.float.specs.Sign.{allFinite}
-use Rattle.eigen.specs.Eigen3x3.{lastOf, rankedOf, EigenAnswer, refusedEigen, answerOf, eigenOf, ValuesAnswer, eigvalsOf}
+use Rattle.eigen.specs.Eigen3x3.{lastOf, rankedOf, refusedEigen, answerOf, eigenOf, eigvalsOf}
 use Rattle.eigen.specs.declared.eigen3x3.Eigen3.{Eigen3}
 use Rattle.eigen.specs.declared.eigen3x3.EigVals3.{EigVals3}
 
-abbrev pub withoutVectors : EigenAnswer → ValuesAnswer
+abbrev pub withoutVectors : Eigen3 → EigVals3
 withoutVectors r = record { code = r .code; made = r .made; settled = r .settled; values = r .values; worked = r .worked }
-
--- the same of the structs
-abbrev pub without : Eigen3 → EigVals3
-without r = record { code = r .code; made = r .made; settled = r .settled; values = r .values; worked = r .worked }
 
 -- input and matrix of the last state are finite, and a number of its vectors, in the order of the values, is not
 pub record VectorsLost (f : Format) (a : List Float) : Type 0 where

@@ -43,51 +43,31 @@ solved2 f a = axesOf (turn2Of f a) (lowerOf f (turn2Of f a) a) (upperOf f (turn2
 
 -- ---- the answers, with and without vectors
 
-pub record Eigen2Answer : Type 0 where
-  pub code : ℕ
-  pub settled : Bool
-  pub values : List Float
-  pub vectors : List Float
-
-abbrev pub eigen2 : Eigen2Answer → Eigen2
-eigen2 r = record { code = r .code; settled = r .settled; values = r .values; vectors = mat2 (r .vectors) }
-
-abbrev pub ofEigen2 : Eigen2 → Eigen2Answer
-ofEigen2 r = record { code = r .code; settled = r .settled; values = r .values; vectors = r .vectors .«data» }
-
-abbrev pub refused2 : Format → ℕ → Eigen2Answer
-refused2 f k = record { code = k; settled = false; values = zeros f 2; vectors = zeros f 4 }
+abbrev pub refused2 : Format → ℕ → Eigen2
+refused2 f k = record { code = k; settled = false; values = zeros f 2; vectors = mat2 (zeros f 4) }
 
 -- the numbers worked out: values and vectors in order
 abbrev pub numbers2Of : Ranked (List Float) → List Float
 numbers2Of x = x .values ++ x .carried
 
-abbrev pub answer2Of : Ranked (List Float) → Eigen2Answer
-answer2Of x = record { code = 0; settled = true; values = x .values; vectors = x .carried }
+abbrev pub answer2Of : Ranked (List Float) → Eigen2
+answer2Of x = record { code = 0; settled = true; values = x .values; vectors = mat2 (x .carried) }
 
 -- the answer to a, whose axes are x
-unfoldable pub end2Of : Format → List Float → Ranked (List Float) → Eigen2Answer
+unfoldable pub end2Of : Format → List Float → Ranked (List Float) → Eigen2
 end2Of f a x = judgedCall (refused2 f) a (numbers2Of x) (answer2Of x)
 
-unfoldable pub eigen2Of : Format → List Float → Eigen2Answer
+unfoldable pub eigen2Of : Format → List Float → Eigen2
 eigen2Of f a = end2Of f a (solved2 f a)
 
-pub record Values2Answer : Type 0 where
-  pub code : ℕ
-  pub settled : Bool
-  pub values : List Float
-
-abbrev pub eigvals2 : Values2Answer → EigVals2
-eigvals2 r = record { code = r .code; settled = r .settled; values = r .values }
-
-abbrev pub refusedValues2 : Format → ℕ → Values2Answer
+abbrev pub refusedValues2 : Format → ℕ → EigVals2
 refusedValues2 f k = record { code = k; settled = false; values = zeros f 2 }
 
-abbrev pub values2Of : List Float → Values2Answer
+abbrev pub values2Of : List Float → EigVals2
 values2Of values = record { code = 0; settled = true; values = values }
 
-unfoldable pub valuesEnd2Of : Format → List Float → List Float → Values2Answer
+unfoldable pub valuesEnd2Of : Format → List Float → List Float → EigVals2
 valuesEnd2Of f a values = judgedCall (refusedValues2 f) a values (values2Of values)
 
-unfoldable pub eigvals2Of : Format → List Float → Values2Answer
+unfoldable pub eigvals2Of : Format → List Float → EigVals2
 eigvals2Of f a = valuesEnd2Of f a (solved2 f a .values)

@@ -114,79 +114,41 @@ rankedOf s = rankOf (record { values = diagonal (s .matrix); carried = s .vector
 
 -- ---- the answer
 
-pub record EigenAnswer : Type 0 where
-  pub code : ℕ
-  pub made : Made
-  pub settled : Bool
-  pub values : List Float
-  pub vectors : List Float
-  pub worked : List Float
-
-abbrev pub eigen3 : EigenAnswer → Eigen3
-eigen3 r = record {
-  code = r .code;
-  made = r .made;
-  settled = r .settled;
-  values = r .values;
-  vectors = mat3 (r .vectors);
-  worked = sym3 (r .worked);
-}
-
-abbrev pub ofEigen3 : Eigen3 → EigenAnswer
-ofEigen3 r = record {
-  code = r .code;
-  made = r .made;
-  settled = r .settled;
-  values = r .values;
-  vectors = r .vectors .«data»;
-  worked = r .worked .«data»;
-}
-
 -- refused: all numbers +0, no rotation, not settled
-abbrev pub refusedEigen : Format → ℕ → EigenAnswer
-refusedEigen f k = record { code = k; made = nothingMade; settled = false; values = zeros f 3; vectors = zeros f 9; worked = zeros f 6 }
+abbrev pub refusedEigen : Format → ℕ → Eigen3
+refusedEigen f k = record { code = k; made = nothingMade; settled = false; values = zeros f 3; vectors = mat3 (zeros f 9); worked = sym3 (zeros f 6) }
 
 -- the numbers worked out: the matrix and the vectors in order. The values are numbers of the matrix.
 abbrev pub numbersOf : State → List Float
 numbersOf s = s .matrix ++ rankedOf s .carried
 
-abbrev pub answerOf : Format → State → EigenAnswer
+abbrev pub answerOf : Format → State → Eigen3
 answerOf f s = record {
   code = 0;
   made = s .made;
   settled = settledOf f (s .matrix);
   values = rankedOf s .values;
-  vectors = rankedOf s .carried;
-  worked = s .matrix;
+  vectors = mat3 (rankedOf s .carried);
+  worked = sym3 (s .matrix);
 }
 
 -- the answer to a, whose last state is s
-unfoldable pub endOf : Format → List Float → State → EigenAnswer
+unfoldable pub endOf : Format → List Float → State → Eigen3
 endOf f a s = judgedCall (refusedEigen f) a (numbersOf s) (answerOf f s)
 
-unfoldable pub eigenOf : Format → List Float → EigenAnswer
+unfoldable pub eigenOf : Format → List Float → Eigen3
 eigenOf f a = endOf f a (lastOf f a)
 
 -- ---- the answer without vectors
 
-pub record ValuesAnswer : Type 0 where
-  pub code : ℕ
-  pub made : Made
-  pub settled : Bool
-  pub values : List Float
-  pub worked : List Float
+abbrev pub refusedValues : Format → ℕ → EigVals3
+refusedValues f k = record { code = k; made = nothingMade; settled = false; values = zeros f 3; worked = sym3 (zeros f 6) }
 
-abbrev pub eigvals3 : ValuesAnswer → EigVals3
-eigvals3 r = record { code = r .code; made = r .made; settled = r .settled; values = r .values; worked = sym3 (r .worked) }
+abbrev pub valuesOf : Format → BareState → EigVals3
+valuesOf f s = record { code = 0; made = s .made; settled = settledOf f (s .matrix); values = sort3Of (diagonal (s .matrix)); worked = sym3 (s .matrix) }
 
-abbrev pub refusedValues : Format → ℕ → ValuesAnswer
-refusedValues f k = record { code = k; made = nothingMade; settled = false; values = zeros f 3; worked = zeros f 6 }
-
-abbrev pub valuesOf : Format → BareState → ValuesAnswer
-valuesOf f s = record { code = 0; made = s .made; settled = settledOf f (s .matrix); values = sort3Of (diagonal (s .matrix)); worked = s .matrix }
-
-unfoldable pub bareEndOf : Format → List Float → BareState → ValuesAnswer
+unfoldable pub bareEndOf : Format → List Float → BareState → EigVals3
 bareEndOf f a s = judgedCall (refusedValues f) a (s .matrix) (valuesOf f s)
 
-unfoldable pub eigvalsOf : Format → List Float → ValuesAnswer
+unfoldable pub eigvalsOf : Format → List Float → EigVals3
 eigvalsOf f a = bareEndOf f a (bareLastOf f a)

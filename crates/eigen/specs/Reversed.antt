@@ -6,7 +6,7 @@ use Prim.Native.Nat.{ℕ}
 use lib.Ieee.{Float, neg, eq}
 use Rattle.matrix.specs.Places.{at, tabulate}
 use Rattle.matrix.specs.Square.{entryOf}
-use Rattle.eigen.specs.Eigen3x3.{EigenAnswer}
+use Rattle.eigen.specs.declared.eigen3x3.Eigen3.{Eigen3}
 
 -- each number of the packed matrix negated
 abbrev pub negated : List Float → List Float
@@ -38,9 +38,9 @@ ColumnsExchanged v w = (columnOf v 0 ≡ columnOf w 2) × (columnOf v 1 ≡ colu
 
 -- The codes, what the runs made, and the marks are the same. With code 0 the values are exchanged and negated; and if no two of them are equal, the columns are
 -- exchanged.
-pub record Reversed (r q : EigenAnswer) : Type 0 where
+pub record Reversed (r q : Eigen3) : Type 0 where
   pub codes : r .code ≡ q .code
   pub made : r .made ≡ q .made
   pub marks : r .settled ≡ q .settled
   pub values : r .code ≡ 0 → ValuesExchanged (r .values) (q .values)
-  pub columns : r .code ≡ 0 → AllDiffer (r .values) → ColumnsExchanged (r .vectors) (q .vectors)
+  pub columns : r .code ≡ 0 → AllDiffer (r .values) → ColumnsExchanged (r .vectors .«data») (q .vectors .«data»)

@@ -12,7 +12,7 @@ use matrix::symmetric::Sym2;
 ghost use mathlib.Core.Path.{_≡_};
 ghost use Rattle.float.specs.Width.{F};
 ghost use Rattle.float.specs.Judged.{judged};
-ghost use Rattle.eigen.specs.Eigen2x2.{axes2, ofAxes2, axesOf, solved2, eigen2, refused2, numbers2Of, answer2Of, eigen2Of, eigvals2, refusedValues2};
+ghost use Rattle.eigen.specs.Eigen2x2.{axes2, ofAxes2, axesOf, solved2, refused2, numbers2Of, answer2Of, eigen2Of, refusedValues2};
 ghost use Rattle.eigen.specs.Eigen2x2.{values2Of, eigvals2Of};
 
 // Two values and their vectors.
@@ -71,7 +71,7 @@ fn eig2(a: Sym2) -> Axes2
 }
 
 fn refused(code: u8) -> Eigen2
-    ensures { λ r. ⌜ r ≡ eigen2 (refused2 F code) ⌝ }
+    ensures { λ r. ⌜ r ≡ refused2 F code ⌝ }
 {
     Eigen2 {
         code,
@@ -83,7 +83,7 @@ fn refused(code: u8) -> Eigen2
 
 // The answer, if all its numbers are finite.
 fn judge(x: Axes2) -> Eigen2
-    ensures { λ r. ⌜ r ≡ eigen2 (judged (refused2 F) 7 (numbers2Of (ofAxes2 x)) (answer2Of (ofAxes2 x))) ⌝ }
+    ensures { λ r. ⌜ r ≡ judged (refused2 F) 7 (numbers2Of (ofAxes2 x)) (answer2Of (ofAxes2 x)) ⌝ }
 {
     let values = x.values;
     let vectors = x.vectors;
@@ -101,7 +101,7 @@ fn judge(x: Axes2) -> Eigen2
 
 // Values in ascending order, with their vectors.
 pub fn eigen(a: Sym2) -> Eigen2
-    ensures { λ r. ⌜ r ≡ eigen2 (eigen2Of F (a .«data»)) ⌝ }
+    ensures { λ r. ⌜ r ≡ eigen2Of F (a .«data») ⌝ }
 {
     let d = a.data;
     if all_finite(&d) {
@@ -111,7 +111,7 @@ pub fn eigen(a: Sym2) -> Eigen2
 }
 
 fn refused_values(code: u8) -> EigVals2
-    ensures { λ r. ⌜ r ≡ eigvals2 (refusedValues2 F code) ⌝ }
+    ensures { λ r. ⌜ r ≡ refusedValues2 F code ⌝ }
 {
     EigVals2 {
         code,
@@ -121,7 +121,7 @@ fn refused_values(code: u8) -> EigVals2
 }
 
 fn judge_values(values: [Real; 2]) -> EigVals2
-    ensures { λ r. ⌜ r ≡ eigvals2 (judged (refusedValues2 F) 7 values (values2Of values)) ⌝ }
+    ensures { λ r. ⌜ r ≡ judged (refusedValues2 F) 7 values (values2Of values) ⌝ }
 {
     if all_finite(&values) {
         return EigVals2 {
@@ -135,7 +135,7 @@ fn judge_values(values: [Real; 2]) -> EigVals2
 
 // Values in ascending order.
 pub fn eigvals(a: Sym2) -> EigVals2
-    ensures { λ r. ⌜ r ≡ eigvals2 (eigvals2Of F (a .«data»)) ⌝ }
+    ensures { λ r. ⌜ r ≡ eigvals2Of F (a .«data») ⌝ }
 {
     let d = a.data;
     if all_finite(&d) {

@@ -21,8 +21,8 @@ ghost use lib.Ieee.{lt};
 ghost use Rattle.float.specs.Width.{F};
 ghost use Rattle.float.specs.Constants.{limitF};
 ghost use Rattle.float.specs.Judged.{judged};
-ghost use Rattle.eigen.specs.Eigen3x3.{working, bare, ofWorking, ofBare, settledOf, lastOf, bareLastOf, sorted, rankedOf, eigen3, refusedEigen};
-ghost use Rattle.eigen.specs.Eigen3x3.{numbersOf, answerOf, eigenOf, eigvals3, refusedValues, valuesOf, eigvalsOf};
+ghost use Rattle.eigen.specs.Eigen3x3.{working, bare, ofWorking, ofBare, settledOf, lastOf, bareLastOf, sorted, rankedOf, refusedEigen};
+ghost use Rattle.eigen.specs.Eigen3x3.{numbersOf, answerOf, eigenOf, refusedValues, valuesOf, eigvalsOf};
 
 // A working state.
 pub struct Working {
@@ -117,7 +117,7 @@ fn work_values(a: Sym3) -> Bare
 }
 
 fn refused(code: u8) -> Eigen3
-    ensures { λ r. ⌜ r ≡ eigen3 (refusedEigen F code) ⌝ }
+    ensures { λ r. ⌜ r ≡ refusedEigen F code ⌝ }
 {
     Eigen3 {
         code,
@@ -144,7 +144,7 @@ fn rank(w: Working) -> Sorted
 
 // The answer, if all its numbers are finite. The values are numbers of the matrix.
 fn judge(w: Working) -> Eigen3
-    ensures { λ r. ⌜ r ≡ eigen3 (judged (refusedEigen F) 7 (numbersOf (ofWorking w)) (answerOf F (ofWorking w))) ⌝ }
+    ensures { λ r. ⌜ r ≡ judged (refusedEigen F) 7 (numbersOf (ofWorking w)) (answerOf F (ofWorking w)) ⌝ }
 {
     let x = rank(w);
     let values = x.values;
@@ -169,7 +169,7 @@ fn judge(w: Working) -> Eigen3
 
 // Values in ascending order, with their vectors.
 pub fn eigen_jacobi(a: Sym3) -> Eigen3
-    ensures { λ r. ⌜ r ≡ eigen3 (eigenOf F (a .«data»)) ⌝ }
+    ensures { λ r. ⌜ r ≡ eigenOf F (a .«data») ⌝ }
 {
     let d = a.data;
     if all_finite(&d) {
@@ -179,7 +179,7 @@ pub fn eigen_jacobi(a: Sym3) -> Eigen3
 }
 
 fn refused_values(code: u8) -> EigVals3
-    ensures { λ r. ⌜ r ≡ eigvals3 (refusedValues F code) ⌝ }
+    ensures { λ r. ⌜ r ≡ refusedValues F code ⌝ }
 {
     EigVals3 {
         code,
@@ -192,7 +192,7 @@ fn refused_values(code: u8) -> EigVals3
 
 // The diagonal in order alone (lines 238 to 243), if all numbers of the matrix are finite.
 fn judge_values(w: Bare) -> EigVals3
-    ensures { λ r. ⌜ r ≡ eigvals3 (judged (refusedValues F) 7 (ofBare w .matrix) (valuesOf F (ofBare w))) ⌝ }
+    ensures { λ r. ⌜ r ≡ judged (refusedValues F) 7 (ofBare w .matrix) (valuesOf F (ofBare w)) ⌝ }
 {
     let worked = w.a;
     let d = worked.data;
@@ -215,7 +215,7 @@ fn judge_values(w: Bare) -> EigVals3
 
 // Values in ascending order.
 pub fn eigvals_jacobi(a: Sym3) -> EigVals3
-    ensures { λ r. ⌜ r ≡ eigvals3 (eigvalsOf F (a .«data»)) ⌝ }
+    ensures { λ r. ⌜ r ≡ eigvalsOf F (a .«data») ⌝ }
 {
     let d = a.data;
     if all_finite(&d) {

@@ -7,8 +7,10 @@ use Rattle.matrix.specs.Square.{mulOf}
 use Rattle.matrix.specs.Symmetric.{symMulOf}
 use Rattle.cholesky.specs.Factor.{FactorAnswer, factor2Of, factor3Of}
 use Rattle.cholesky.specs.Solve.{solve2Of, solve3Of}
-use Rattle.eigen.specs.Eigen3x3.{EigenAnswer, eigenOf}
-use Rattle.svd.specs.Svd3x3.{SvdAnswer, svdOf}
+use Rattle.eigen.specs.Eigen3x3.{eigenOf}
+use Rattle.eigen.specs.declared.eigen3x3.Eigen3.{Eigen3}
+use Rattle.svd.specs.Svd3x3.{svdOf}
+use Rattle.svd.specs.declared.svd3x3.Svd3.{Svd3}
 use Rattle.exports.specs.Slices.{into, intoFirst, given, whenDone}
 
 -- ---- y = A x, with the numbers of the matrix in a
@@ -38,16 +40,16 @@ solve3Into f l b x = intoFirst 3 x (given 6 l x (solve3Of f l b x))
 
 -- ---- values, vectors and the worked matrix, with code 0
 
-abbrev pub eigenNumbers : EigenAnswer → List Float
-eigenNumbers r = (r .values ++ r .vectors) ++ r .worked
+abbrev pub eigenNumbers : Eigen3 → List Float
+eigenNumbers r = (r .values ++ r .vectors .«data») ++ r .worked .«data»
 
 unfoldable pub eigen3Into : Format → List Float → List Float → Answer (List Float)
 eigen3Into f a out = into 18 out (given 6 a out (whenDone (record { code = eigenOf f a .code; value = eigenNumbers (eigenOf f a) }) out))
 
 -- ---- values, U, V and the worked matrix, with code 0
 
-abbrev pub svdNumbers : SvdAnswer → List Float
-svdNumbers r = ((r .values ++ r .u) ++ r .v) ++ r .worked
+abbrev pub svdNumbers : Svd3 → List Float
+svdNumbers r = ((r .values ++ r .u .«data») ++ r .v .«data») ++ r .worked .«data»
 
 unfoldable pub svd3Into : Format → List Float → List Float → Answer (List Float)
 svd3Into f a out = into 30 out (given 9 a out (whenDone (record { code = svdOf f a .code; value = svdNumbers (svdOf f a) }) out))

@@ -23,8 +23,6 @@ ghost use mathlib.Core.Path.{_≡_};
 ghost use lib.ListN.{length};
 ghost use Rattle.float.specs.Width.{F};
 ghost use Rattle.matrix.specs.Answer.{Outcome};
-ghost use Rattle.eigen.specs.Eigen3x3.{ofEigen3};
-ghost use Rattle.svd.specs.Svd3x3.{ofSvd3};
 ghost use Rattle.exports.specs.Kernels.{squareMulOf, packedMulOf, factor2Into, factor3Into, solve2Into, solve3Into, eigenNumbers, eigen3Into, svdNumbers};
 ghost use Rattle.exports.specs.Kernels.{svd3Into};
 
@@ -138,7 +136,7 @@ pub extern "C" fn zanikory_cholesky_3x3_solve(l: &[Real], x: &mut [Real], b: &[R
 // Values, vectors, worked matrix.
 fn put_eigen(out: &mut [Real], r: Eigen3)
     requires { ⌜ length (now out) ≡ 18 ⌝ }
-    ensures { λ _. ⌜ now (out .exit) ≡ eigenNumbers (ofEigen3 r) ⌝ }
+    ensures { λ _. ⌜ now (out .exit) ≡ eigenNumbers r ⌝ }
 {
     let values = r.values;
     let vectors = r.vectors;
@@ -170,7 +168,7 @@ pub extern "C" fn zanikory_eigen_3x3(a: &[Real], out: &mut [Real]) -> u8
 // Values, U, V, worked matrix.
 fn put_svd(out: &mut [Real], r: Svd3)
     requires { ⌜ length (now out) ≡ 30 ⌝ }
-    ensures { λ _. ⌜ now (out .exit) ≡ svdNumbers (ofSvd3 r) ⌝ }
+    ensures { λ _. ⌜ now (out .exit) ≡ svdNumbers r ⌝ }
 {
     let values = r.values;
     let u = r.u;

@@ -11,10 +11,14 @@ use Rattle.matrix.specs.Answer.{zeros}
 use Rattle.matrix.specs.Places.{at, tabulate}
 use Rattle.cholesky.specs.Factor.{FactorAnswer, factor2Of, factor3Of}
 use Rattle.cholesky.specs.Solve.{SolvedAnswer, factorAndSolve2Of, factorAndSolve3Of}
-use Rattle.eigen.specs.Eigen2x2.{Eigen2Answer, eigen2Of}
-use Rattle.eigen.specs.Eigen3x3.{EigenAnswer, eigenOf}
-use Rattle.svd.specs.Svd2x2.{Svd2Answer, svd2Of}
-use Rattle.svd.specs.Svd3x3.{SvdAnswer, svdOf}
+use Rattle.eigen.specs.Eigen2x2.{eigen2Of}
+use Rattle.eigen.specs.Eigen3x3.{eigenOf}
+use Rattle.eigen.specs.declared.eigen2x2.Eigen2.{Eigen2}
+use Rattle.eigen.specs.declared.eigen3x3.Eigen3.{Eigen3}
+use Rattle.svd.specs.Svd2x2.{svd2Of}
+use Rattle.svd.specs.Svd3x3.{svdOf}
+use Rattle.svd.specs.declared.svd2x2.Svd2.{Svd2}
+use Rattle.svd.specs.declared.svd3x3.Svd3.{Svd3}
 use Rattle.kinds.specs.declared.work.Worked.{Worked}
 
 -- ---- numbers in and out
@@ -42,44 +46,44 @@ refusedKind f code pivot = record { code = code; count = pivot; settled = 0; val
 
 -- ---- from the kernels' answers
 
-abbrev pub fromEigen2 : Format → Eigen2Answer → Worked
+abbrev pub fromEigen2 : Format → Eigen2 → Worked
 fromEigen2 f r = record {
   code = r .code;
   count = 0;
   settled = markOf (r .settled);
   values = padded f 3 2 (r .values);
-  left = padded f 9 4 (r .vectors);
+  left = padded f 9 4 (r .vectors .«data»);
   right = zeros f 9;
 }
 
-abbrev pub fromEigen3 : Format → EigenAnswer → Worked
+abbrev pub fromEigen3 : Format → Eigen3 → Worked
 fromEigen3 f r = record {
   code = r .code;
   count = r .made .count;
   settled = markOf (r .settled);
   values = padded f 3 3 (r .values);
-  left = padded f 9 9 (r .vectors);
+  left = padded f 9 9 (r .vectors .«data»);
   right = zeros f 9;
 }
 
-abbrev pub fromSvd2 : Format → Svd2Answer → Worked
+abbrev pub fromSvd2 : Format → Svd2 → Worked
 fromSvd2 f r = record {
   code = r .code;
   count = 0;
   settled = markOf (r .settled);
   values = padded f 3 2 (r .values);
-  left = padded f 9 4 (r .u);
-  right = padded f 9 4 (r .v);
+  left = padded f 9 4 (r .u .«data»);
+  right = padded f 9 4 (r .v .«data»);
 }
 
-abbrev pub fromSvd3 : Format → SvdAnswer → Worked
+abbrev pub fromSvd3 : Format → Svd3 → Worked
 fromSvd3 f r = record {
   code = r .code;
   count = r .made .count;
   settled = markOf (r .settled);
   values = padded f 3 3 (r .values);
-  left = padded f 9 9 (r .u);
-  right = padded f 9 9 (r .v);
+  left = padded f 9 9 (r .u .«data»);
+  right = padded f 9 9 (r .v .«data»);
 }
 
 -- a factor of s numbers; on refusal its early writes are no answer

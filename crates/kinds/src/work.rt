@@ -23,10 +23,6 @@ ghost use Rattle.matrix.specs.Square.{mat2, mat3};
 ghost use Rattle.matrix.specs.Symmetric.{sym2, sym3};
 ghost use Rattle.cholesky.specs.Factor.{ofFactor2, ofFactor3};
 ghost use Rattle.cholesky.specs.Solve.{ofSolved2, ofSolved3};
-ghost use Rattle.eigen.specs.Eigen2x2.{ofEigen2};
-ghost use Rattle.eigen.specs.Eigen3x3.{ofEigen3};
-ghost use Rattle.svd.specs.Svd2x2.{ofSvd2};
-ghost use Rattle.svd.specs.Svd3x3.{ofSvd3};
 ghost use Rattle.kinds.specs.Work.{firstOf, padded, markOf, doneMark, refusedKind, fromEigen2, fromEigen3, fromSvd2, fromSvd3, wholeFactor, fromFactor};
 ghost use Rattle.kinds.specs.Work.{fromSolved, workOf};
 
@@ -82,7 +78,7 @@ fn all9(m: Mat3) -> [Real; 9]
 }
 
 fn from_eigen2(r: Eigen2) -> Worked
-    ensures { λ w. ⌜ w ≡ fromEigen2 F (ofEigen2 r) ⌝ }
+    ensures { λ w. ⌜ w ≡ fromEigen2 F r ⌝ }
 {
     let v = r.values;
     let m = r.vectors;
@@ -98,7 +94,7 @@ fn from_eigen2(r: Eigen2) -> Worked
 }
 
 fn from_eigen3(r: Eigen3) -> Worked
-    ensures { λ w. ⌜ w ≡ fromEigen3 F (ofEigen3 r) ⌝ }
+    ensures { λ w. ⌜ w ≡ fromEigen3 F r ⌝ }
 {
     let made = r.made;
     let v = r.values;
@@ -115,7 +111,7 @@ fn from_eigen3(r: Eigen3) -> Worked
 }
 
 fn from_svd2(r: Svd2) -> Worked
-    ensures { λ w. ⌜ w ≡ fromSvd2 F (ofSvd2 r) ⌝ }
+    ensures { λ w. ⌜ w ≡ fromSvd2 F r ⌝ }
 {
     let s = r.values;
     let u = r.u;
@@ -133,7 +129,7 @@ fn from_svd2(r: Svd2) -> Worked
 }
 
 fn from_svd3(r: Svd3) -> Worked
-    ensures { λ w. ⌜ w ≡ fromSvd3 F (ofSvd3 r) ⌝ }
+    ensures { λ w. ⌜ w ≡ fromSvd3 F r ⌝ }
 {
     let made = r.made;
     let s = r.values;

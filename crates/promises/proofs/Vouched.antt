@@ -19,12 +19,12 @@ use Rattle.matrix.proofs.Tables.{table-finite, zeros-finite}
 use Rattle.cholesky.specs.Factor.{FactorAnswer, factor2Of, factor3Of}
 use Rattle.cholesky.specs.Solve.{SolvedAnswer}
 use Rattle.cholesky.proofs.Owed.{factor2-owed, factor3-owed, solved2-owed, solved3-owed}
-use Rattle.eigen.specs.Eigen2x2.{Eigen2Answer}
-use Rattle.eigen.specs.Eigen3x3.{EigenAnswer}
 use Rattle.eigen.proofs.Owed.{eigen2-owed, eigen3-owed}
-use Rattle.svd.specs.Svd2x2.{Svd2Answer}
-use Rattle.svd.specs.Svd3x3.{SvdAnswer}
+use Rattle.eigen.specs.declared.eigen2x2.Eigen2.{Eigen2}
+use Rattle.eigen.specs.declared.eigen3x3.Eigen3.{Eigen3}
 use Rattle.svd.proofs.Owed.{svd2-owed, svd3-owed}
+use Rattle.svd.specs.declared.svd2x2.Svd2.{Svd2}
+use Rattle.svd.specs.declared.svd3x3.Svd3.{Svd3}
 use Rattle.kinds.specs.Work.{firstOf, padded, refusedKind, fromEigen2, fromEigen3, fromSvd2, fromSvd3, fromFactor, fromSolved, workOf}
 use Rattle.kinds.proofs.Works.{each-kind}
 use Rattle.record.specs.Layout.{nineAt, threeAt}
@@ -57,13 +57,13 @@ module _ (f : Format) (nine three : List Float) where
   work-vouched kind =
       let zero = refused-vouched f 0 0 in
       each-kind Vouched f kind nine three
-      (λ _. by-owed (eigen2-owed f (firstOf 3 nine)) (λ (r : Eigen2Answer). Vouched (fromEigen2 f r))
+      (λ _. by-owed (eigen2-owed f (firstOf 3 nine)) (λ (r : Eigen2). Vouched (fromEigen2 f r))
       (λ h. (padded-finite f 3 2 _ (h .0) (h .1), padded-finite f 9 4 _ (h .2 .0) (h .2 .1), zeros-finite f 9)) zero)
-      (λ _. by-owed (eigen3-owed f (firstOf 6 nine) refl) (λ (r : EigenAnswer). Vouched (fromEigen3 f r))
+      (λ _. by-owed (eigen3-owed f (firstOf 6 nine) refl) (λ (r : Eigen3). Vouched (fromEigen3 f r))
       (λ h. (padded-finite f 3 3 _ (h .0) (h .1), padded-finite f 9 9 _ (h .2 .0) (h .2 .1), zeros-finite f 9)) zero)
-      (λ _. by-owed (svd2-owed f (firstOf 4 nine)) (λ (r : Svd2Answer). Vouched (fromSvd2 f r))
+      (λ _. by-owed (svd2-owed f (firstOf 4 nine)) (λ (r : Svd2). Vouched (fromSvd2 f r))
       (λ h. (padded-finite f 3 2 _ (h .0) (h .1), padded-finite f 9 4 _ (h .2 .0) (h .2 .1), padded-finite f 9 4 _ (h .2 .2 .0) (h .2 .2 .1))) zero)
-      (λ _. by-owed (svd3-owed f (firstOf 9 nine) refl) (λ (r : SvdAnswer). Vouched (fromSvd3 f r))
+      (λ _. by-owed (svd3-owed f (firstOf 9 nine) refl) (λ (r : Svd3). Vouched (fromSvd3 f r))
       (λ h. (padded-finite f 3 3 _ (h .0) (h .1), padded-finite f 9 9 _ (h .2 .0) (h .2 .1), padded-finite f 9 9 _ (h .2 .2 .0) (h .2 .2 .1))) zero)
       (λ _. factor-vouched f 3 _ (λ e. let h = factor2-owed f (zeros f 3) (firstOf 3 nine) refl .full e in (h .0, h .1)))
       (λ _. factor-vouched f 6 _ (λ e. let h = factor3-owed f (zeros f 6) (firstOf 6 nine) refl .full e in (h .0, h .1)))

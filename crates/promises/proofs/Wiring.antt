@@ -19,9 +19,10 @@ use Rattle.float.proofs.Finite.{finite-neg}
 use Rattle.matrix.specs.Places.{at, tabulate}
 use Rattle.matrix.proofs.Tables.{at-tabulate, tabulate-same, first-tabulate}
 use Rattle.jacobi.specs.declared.made.Made.{Made}
-use Rattle.eigen.specs.Eigen3x3.{EigenAnswer, eigenOf}
+use Rattle.eigen.specs.Eigen3x3.{eigenOf}
 use Rattle.eigen.specs.Reversed.{negated, AllDiffer, ValuesExchanged, ColumnsExchanged, Reversed}
 use Rattle.eigen.proofs.Reversed.{reversed}
+use Rattle.eigen.specs.declared.eigen3x3.Eigen3.{Eigen3}
 use Rattle.kinds.specs.Work.{firstOf, markOf, fromEigen3, refusedKind, workOf}
 use Rattle.kinds.specs.declared.work.Worked.{Worked}
 use Rattle.record.specs.Layout.{numberBytes, nineAt, threeAt, placeOf, requestSize, answerSize}
@@ -137,7 +138,7 @@ record Alike (x y : Worked) : Type 0 where
 refused-alike : (f : Format) (k : ℕ) → (k ≡ 0 → ⊥) → Alike (refusedKind f k 0) (refusedKind f k 0)
 refused-alike f k n = record { codes = refl; counts = refl; marks = refl; values = (λ e. absurd (n e)); columns = (λ e _. absurd (n e)) }
 
-eigen-alike : (f : Format) (r q : EigenAnswer) → Reversed r q → Alike (fromEigen3 f r) (fromEigen3 f q)
+eigen-alike : (f : Format) (r q : Eigen3) → Reversed r q → Alike (fromEigen3 f r) (fromEigen3 f q)
 eigen-alike f r q h =
     record { codes = h .codes; counts = ap (λ (m : Made). m .count) (h .made); marks = ap markOf (h .marks); values = h .values; columns = h .columns }
 

@@ -66,7 +66,7 @@ module _ (f : Format) (a b : Float) (u v : List Float) where
 
 -- A matrix of the source holds nine numbers. Here its numbers are a list, so their count is a premise.
 pub in-order : (f : Format) (a : List Float) → length a ≡ 9 → svdOf f a .code ≡ 0
-    → InOrder f 3 (lastSigned f a) (record { values = svdOf f a .values; carried = record { u = svdOf f a .u; v = svdOf f a .v } })
+    → InOrder f 3 (lastSigned f a) (record { values = svdOf f a .values; carried = record { u = svdOf f a .u .«data»; v = svdOf f a .v .«data» } })
 unfolding factorsOf
 in-order f a n e =
     let d = answered f a e in
@@ -82,7 +82,7 @@ pub in-order-call : (a : Mat3) (r : Svd3) → length (a .«data») ≡ 9 → svd
 in-order-call a r n p e = rw p (in-order F (a .«data») n (sym (ap (λ (r : Svd3). r .code) p) ∙ e))
 
 pub in-order2 : (f : Format) (a : List Float) → svd2Of f a .code ≡ 0
-    → InOrder f 2 (last2Signed f a) (record { values = svd2Of f a .values; carried = record { u = svd2Of f a .u; v = svd2Of f a .v } })
+    → InOrder f 2 (last2Signed f a) (record { values = svd2Of f a .values; carried = record { u = svd2Of f a .u .«data»; v = svd2Of f a .v .«data» } })
 unfolding factors2Of
 in-order2 f a e =
     let d = answered2 f a e in

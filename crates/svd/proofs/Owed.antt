@@ -16,11 +16,13 @@ use Rattle.jacobi.proofs.Moves.{moved-finite}
 use Rattle.jacobi.proofs.Sorted.{below3}
 use Rattle.svd.specs.Pairs.{entry}
 use Rattle.svd.specs.Order.{signed3Of}
-use Rattle.svd.specs.Svd3x3.{State, lastOf, SvdAnswer, refusedSvd, factorsOf, numbersOf, answerOf, endOf, svdOf}
-use Rattle.svd.specs.Svd2x2.{sides2Of, factors2Of, Svd2Answer, refusedSvd2, numbers2Of, answer2Of, end2Of, svd2Of}
+use Rattle.svd.specs.Svd3x3.{State, lastOf, refusedSvd, factorsOf, numbersOf, answerOf, endOf, svdOf}
+use Rattle.svd.specs.Svd2x2.{sides2Of, factors2Of, refusedSvd2, numbers2Of, answer2Of, end2Of, svd2Of}
 use Rattle.svd.specs.Owed.{svd3Parts, svd2Parts}
 use Rattle.svd.proofs.Sizes.{FullState, last-full, factors-full, factors2-full}
 use Rattle.svd.proofs.Moved.{same-permutation}
+use Rattle.svd.specs.declared.svd2x2.Svd2.{Svd2}
+use Rattle.svd.specs.declared.svd3x3.Svd3.{Svd3}
 
 -- ---- 3x3
 
@@ -48,14 +50,14 @@ answer-full f s h e =
 module _ (f : Format) (a : List Float) where
   pub svd3-code : svdOf f a .code ≡ pick (allFinite a) (pick (allFinite (numbersOf (lastOf f a))) 0 7) 5
   unfolding svdOf endOf
-  svd3-code = call-code (λ (r : SvdAnswer). r .code) (refusedSvd f) (λ k. refl) a (numbersOf (lastOf f a)) (answerOf f (lastOf f a))
+  svd3-code = call-code (λ (r : Svd3). r .code) (refusedSvd f) (λ k. refl) a (numbersOf (lastOf f a)) (answerOf f (lastOf f a))
 
   -- a matrix of the source holds nine numbers
-  pub svd3-owed : length a ≡ 9 → Owed (λ (r : SvdAnswer). r .code) (refusedSvd f) svd3Parts a (svdOf f a)
+  pub svd3-owed : length a ≡ 9 → Owed (λ (r : Svd3). r .code) (refusedSvd f) svd3Parts a (svdOf f a)
   unfolding svdOf endOf
   svd3-owed n =
       let s = lastOf f a in
-      call-owed (λ (r : SvdAnswer). r .code) (refusedSvd f) (λ k. refl) a (numbersOf s) (answerOf f s) svd3Parts refl
+      call-owed (λ (r : Svd3). r .code) (refusedSvd f) (λ k. refl) a (numbersOf s) (answerOf f s) svd3Parts refl
       (λ _ e. answer-full f s (last-full f a n) e)
 
 -- ---- 2x2
@@ -65,14 +67,14 @@ module _ (f : Format) (a : List Float) where
   unfolding svd2Of end2Of
   svd2-code =
       let w = factors2Of (sides2Of f a) in
-      call-code (λ (r : Svd2Answer). r .code) (refusedSvd2 f) (λ k. refl) a (numbers2Of w) (answer2Of w)
+      call-code (λ (r : Svd2). r .code) (refusedSvd2 f) (λ k. refl) a (numbers2Of w) (answer2Of w)
 
-  pub svd2-owed : Owed (λ (r : Svd2Answer). r .code) (refusedSvd2 f) svd2Parts a (svd2Of f a)
+  pub svd2-owed : Owed (λ (r : Svd2). r .code) (refusedSvd2 f) svd2Parts a (svd2Of f a)
   unfolding svd2Of end2Of
   svd2-owed =
       let w = factors2Of (sides2Of f a) in
       let full = factors2-full (sides2Of f a) in
-      call-owed (λ (r : Svd2Answer). r .code) (refusedSvd2 f) (λ k. refl) a (numbers2Of w) (answer2Of w) svd2Parts refl
+      call-owed (λ (r : Svd2). r .code) (refusedSvd2 f) (λ k. refl) a (numbers2Of w) (answer2Of w) svd2Parts refl
       (λ _ e.
       let p = parts-finite (w .values) (w .carried .u ++ w .carried .v) e in
       let q = parts-finite (w .carried .u) (w .carried .v) (p .1) in

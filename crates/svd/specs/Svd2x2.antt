@@ -25,32 +25,19 @@ factors2Of r = order2Of (r .d1) (r .d2) (turn2 (r .cl) (r .sl)) (turn2 (r .cr) (
 
 -- ---- the answer
 
-pub record Svd2Answer : Type 0 where
-  pub code : ℕ
-  pub settled : Bool
-  pub values : List Float
-  pub u : List Float
-  pub v : List Float
-
-abbrev pub svd2 : Svd2Answer → Svd2
-svd2 r = record { code = r .code; settled = r .settled; values = r .values; u = mat2 (r .u); v = mat2 (r .v) }
-
-abbrev pub ofSvd2 : Svd2 → Svd2Answer
-ofSvd2 r = record { code = r .code; settled = r .settled; values = r .values; u = r .u .«data»; v = r .v .«data» }
-
-abbrev pub refusedSvd2 : Format → ℕ → Svd2Answer
-refusedSvd2 f k = record { code = k; settled = false; values = zeros f 2; u = zeros f 4; v = zeros f 4 }
+abbrev pub refusedSvd2 : Format → ℕ → Svd2
+refusedSvd2 f k = record { code = k; settled = false; values = zeros f 2; u = mat2 (zeros f 4); v = mat2 (zeros f 4) }
 
 -- the numbers worked out: the values, U and V
 abbrev pub numbers2Of : Factors → List Float
 numbers2Of w = w .values ++ (w .carried .u ++ w .carried .v)
 
-abbrev pub answer2Of : Factors → Svd2Answer
-answer2Of w = record { code = 0; settled = true; values = w .values; u = w .carried .u; v = w .carried .v }
+abbrev pub answer2Of : Factors → Svd2
+answer2Of w = record { code = 0; settled = true; values = w .values; u = mat2 (w .carried .u); v = mat2 (w .carried .v) }
 
 -- the answer to a, whose factors are w
-unfoldable pub end2Of : Format → List Float → Factors → Svd2Answer
+unfoldable pub end2Of : Format → List Float → Factors → Svd2
 end2Of f a w = judgedCall (refusedSvd2 f) a (numbers2Of w) (answer2Of w)
 
-unfoldable pub svd2Of : Format → List Float → Svd2Answer
+unfoldable pub svd2Of : Format → List Float → Svd2
 svd2Of f a = end2Of f a (factors2Of (sides2Of f a))

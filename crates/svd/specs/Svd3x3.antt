@@ -57,40 +57,9 @@ lastOf f a = runOf f 25 (startOf f a)
 
 -- ---- the answer
 
-pub record SvdAnswer : Type 0 where
-  pub code : ℕ
-  pub made : Made
-  pub settled : Bool
-  pub values : List Float
-  pub u : List Float
-  pub v : List Float
-  pub worked : List Float
-
-abbrev pub svd3 : SvdAnswer → Svd3
-svd3 r = record {
-  code = r .code;
-  made = r .made;
-  settled = r .settled;
-  values = r .values;
-  u = mat3 (r .u);
-  v = mat3 (r .v);
-  worked = mat3 (r .worked);
-}
-
-abbrev pub ofSvd3 : Svd3 → SvdAnswer
-ofSvd3 r = record {
-  code = r .code;
-  made = r .made;
-  settled = r .settled;
-  values = r .values;
-  u = r .u .«data»;
-  v = r .v .«data»;
-  worked = r .worked .«data»;
-}
-
 -- refused: all numbers +0, no rotation, not settled
-abbrev pub refusedSvd : Format → ℕ → SvdAnswer
-refusedSvd f k = record { code = k; made = nothingMade; settled = false; values = zeros f 3; u = zeros f 9; v = zeros f 9; worked = zeros f 9 }
+abbrev pub refusedSvd : Format → ℕ → Svd3
+refusedSvd f k = record { code = k; made = nothingMade; settled = false; values = zeros f 3; u = mat3 (zeros f 9); v = mat3 (zeros f 9); worked = mat3 (zeros f 9) }
 
 unfoldable pub factorsOf : State → Factors
 factorsOf s = orderOf (entry (s .matrix) 0 0) (entry (s .matrix) 1 1) (entry (s .matrix) 2 2) (s .u) (s .v)
@@ -99,20 +68,20 @@ factorsOf s = orderOf (entry (s .matrix) 0 0) (entry (s .matrix) 1 1) (entry (s 
 abbrev pub numbersOf : State → List Float
 numbersOf s = s .matrix ++ (factorsOf s .carried .u ++ factorsOf s .carried .v)
 
-abbrev pub answerOf : Format → State → SvdAnswer
+abbrev pub answerOf : Format → State → Svd3
 answerOf f s = record {
   code = 0;
   made = s .made;
   settled = settledOf f (s .matrix);
   values = factorsOf s .values;
-  u = factorsOf s .carried .u;
-  v = factorsOf s .carried .v;
-  worked = s .matrix;
+  u = mat3 (factorsOf s .carried .u);
+  v = mat3 (factorsOf s .carried .v);
+  worked = mat3 (s .matrix);
 }
 
 -- the answer to a, whose last state is s
-unfoldable pub endOf : Format → List Float → State → SvdAnswer
+unfoldable pub endOf : Format → List Float → State → Svd3
 endOf f a s = judgedCall (refusedSvd f) a (numbersOf s) (answerOf f s)
 
-unfoldable pub svdOf : Format → List Float → SvdAnswer
+unfoldable pub svdOf : Format → List Float → Svd3
 svdOf f a = endOf f a (lastOf f a)

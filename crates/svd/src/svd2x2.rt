@@ -14,7 +14,7 @@ ghost use mathlib.Core.Path.{_≡_};
 ghost use Rattle.float.specs.Width.{F};
 ghost use Rattle.float.specs.Judged.{judged};
 ghost use Rattle.svd.specs.Order.{factors2, ofFactors2};
-ghost use Rattle.svd.specs.Svd2x2.{factors2Of, svd2, refusedSvd2, numbers2Of, answer2Of, svd2Of};
+ghost use Rattle.svd.specs.Svd2x2.{factors2Of, refusedSvd2, numbers2Of, answer2Of, svd2Of};
 
 pub struct Svd2 {
     pub code: u8,
@@ -38,7 +38,7 @@ fn factors(r: TwoSided) -> Factors2
 }
 
 fn refused(code: u8) -> Svd2
-    ensures { λ r. ⌜ r ≡ svd2 (refusedSvd2 F code) ⌝ }
+    ensures { λ r. ⌜ r ≡ refusedSvd2 F code ⌝ }
 {
     Svd2 {
         code,
@@ -51,7 +51,7 @@ fn refused(code: u8) -> Svd2
 
 // The answer, if all its numbers are finite.
 fn judge(w: Factors2) -> Svd2
-    ensures { λ r. ⌜ r ≡ svd2 (judged (refusedSvd2 F) 7 (numbers2Of (ofFactors2 w)) (answer2Of (ofFactors2 w))) ⌝ }
+    ensures { λ r. ⌜ r ≡ judged (refusedSvd2 F) 7 (numbers2Of (ofFactors2 w)) (answer2Of (ofFactors2 w)) ⌝ }
 {
     let values = w.values;
     let u = w.u;
@@ -72,7 +72,7 @@ fn judge(w: Factors2) -> Svd2
 
 // Values in descending order, with the columns of U and V (lines 11 to 21).
 pub fn svd(a: Mat2) -> Svd2
-    ensures { λ r. ⌜ r ≡ svd2 (svd2Of F (a .«data»)) ⌝ }
+    ensures { λ r. ⌜ r ≡ svd2Of F (a .«data») ⌝ }
 {
     let d = a.data;
     if all_finite(&d) {

@@ -23,7 +23,7 @@ ghost use Rattle.float.specs.Constants.{limitF};
 ghost use Rattle.float.specs.Judged.{judged};
 ghost use Rattle.float.specs.Sign.{allFinite};
 ghost use Rattle.svd.specs.Order.{factors3};
-ghost use Rattle.svd.specs.Svd3x3.{working, ofWorking, settledOf, lastOf, svd3, refusedSvd, factorsOf, numbersOf, answerOf, svdOf};
+ghost use Rattle.svd.specs.Svd3x3.{working, ofWorking, settledOf, lastOf, refusedSvd, factorsOf, numbersOf, answerOf, svdOf};
 
 // A working state.
 pub struct Working {
@@ -85,7 +85,7 @@ fn work(a: Mat3) -> Working
 }
 
 fn refused(code: u8) -> Svd3
-    ensures { λ r. ⌜ r ≡ svd3 (refusedSvd F code) ⌝ }
+    ensures { λ r. ⌜ r ≡ refusedSvd F code ⌝ }
 {
     Svd3 {
         code,
@@ -126,7 +126,7 @@ fn worked_finite(a: Mat3, x: Factors3) -> bool
 
 // The answer, if all its numbers are finite.
 fn judge(w: Working) -> Svd3
-    ensures { λ r. ⌜ r ≡ svd3 (judged (refusedSvd F) 7 (numbersOf (ofWorking w)) (answerOf F (ofWorking w))) ⌝ }
+    ensures { λ r. ⌜ r ≡ judged (refusedSvd F) 7 (numbersOf (ofWorking w)) (answerOf F (ofWorking w)) ⌝ }
 {
     let x = factors(w);
     let a = w.a;
@@ -151,7 +151,7 @@ fn judge(w: Working) -> Svd3
 
 // Values in descending order, with the columns of U and V (lines 11 to 40).
 pub fn svd(a: Mat3) -> Svd3
-    ensures { λ r. ⌜ r ≡ svd3 (svdOf F (a .«data»)) ⌝ }
+    ensures { λ r. ⌜ r ≡ svdOf F (a .«data») ⌝ }
 {
     let d = a.data;
     if all_finite(&d) {

@@ -2,7 +2,7 @@
 use mathlib.Core.Path.{sym, ap, _∙_}
 use Rattle.float.specs.Width.{F}
 use Rattle.float.proofs.Judged.{stands, refuses}
-use Rattle.eigen.specs.Eigen2x2.{eigen2, refused2, eigen2Of, end2Of}
+use Rattle.eigen.specs.Eigen2x2.{refused2, eigen2Of, end2Of}
 use borrow.Author.Needs.{needs}
 use Rattle.eigen.proofs.eigen2x2.eigen.Statement.{statement}
 use Rattle.eigen.proofs.eigen2x2.eigen.Tie as tie
@@ -12,14 +12,14 @@ unfolding eigen2Of end2Of
 returns c =
     let t = c .before .before .before in
     let a = t .before .before .before .args .a .«data» in
-    rw (c .judge .ensures, c .before .eig2 .ensures) (ap eigen2 (sym (stands (refused2 F) 5 a _ (t .all-finite .ensures) (c .before .before .if1 .taken))))
+    rw (c .judge .ensures, c .before .eig2 .ensures) (sym (stands (refused2 F) 5 a _ (t .all-finite .ensures) (c .before .before .if1 .taken)))
 
 returns-2 : tie.Need-returns-2
 unfolding eigen2Of end2Of
 returns-2 c =
     let t = c .before .before in
     let a = t .before .before .before .args .a .«data» in
-    c .refused .ensures ∙ ap eigen2 (sym (refuses (refused2 F) 5 a _ (t .all-finite .ensures) (c .before .if1 .left)))
+    c .refused .ensures ∙ sym (refuses (refused2 F) 5 a _ (t .all-finite .ensures) (c .before .if1 .left))
 
 pub eigen-spec : {M : Type 1} → statement M
 eigen-spec =

@@ -2,7 +2,7 @@
 use mathlib.Core.Path.{sym, ap, _∙_}
 use Rattle.float.specs.Width.{F}
 use Rattle.float.proofs.Judged.{stands, refuses}
-use Rattle.eigen.specs.Eigen2x2.{eigvals2, refusedValues2, eigvals2Of, valuesEnd2Of}
+use Rattle.eigen.specs.Eigen2x2.{refusedValues2, eigvals2Of, valuesEnd2Of}
 use borrow.Author.Needs.{needs}
 use Rattle.eigen.proofs.eigen2x2.eigvals.Statement.{statement}
 use Rattle.eigen.proofs.eigen2x2.eigvals.Tie as tie
@@ -13,14 +13,14 @@ returns c =
     let t = c .before .before .before .before in
     let a = t .before .before .before .args .a .«data» in
     rw (c .judge-values .ensures, c .before .before .eig2 .ensures)
-    (ap eigvals2 (sym (stands (refusedValues2 F) 5 a _ (t .all-finite .ensures) (c .before .before .before .if1 .taken))))
+    (sym (stands (refusedValues2 F) 5 a _ (t .all-finite .ensures) (c .before .before .before .if1 .taken)))
 
 returns-2 : tie.Need-returns-2
 unfolding eigvals2Of valuesEnd2Of
 returns-2 c =
     let t = c .before .before in
     let a = t .before .before .before .args .a .«data» in
-    c .refused-values .ensures ∙ ap eigvals2 (sym (refuses (refusedValues2 F) 5 a _ (t .all-finite .ensures) (c .before .if1 .left)))
+    c .refused-values .ensures ∙ sym (refuses (refusedValues2 F) 5 a _ (t .all-finite .ensures) (c .before .if1 .left))
 
 pub eigvals-spec : {M : Type 1} → statement M
 eigvals-spec =

@@ -2,7 +2,7 @@
 use mathlib.Core.Path.{sym, ap, _∙_}
 use Rattle.float.specs.Width.{F}
 use Rattle.float.proofs.Judged.{stands, refuses}
-use Rattle.eigen.specs.Eigen2x2.{ofAxes2, eigen2, refused2, numbers2Of, answer2Of}
+use Rattle.eigen.specs.Eigen2x2.{ofAxes2, refused2, numbers2Of, answer2Of}
 use borrow.Author.Needs.{needs}
 use Rattle.eigen.proofs.eigen2x2.judge.Statement.{statement}
 use Rattle.eigen.proofs.eigen2x2.judge.Tie as tie
@@ -10,13 +10,13 @@ use Rattle.eigen.proofs.eigen2x2.judge.Tie as tie
 returns : tie.Need-returns
 returns c =
     let x = ofAxes2 (c .before .before .before .before .before .before .before .args .x) in
-    ap eigen2 (sym (stands (refused2 F) 7 (numbers2Of x) (answer2Of x) (c .before .both-finite .ensures) (c .if1 .taken)))
+    (sym (stands (refused2 F) 7 (numbers2Of x) (answer2Of x) (c .before .both-finite .ensures) (c .if1 .taken)))
 
 returns-2 : tie.Need-returns-2
 returns-2 c =
     let x = ofAxes2 (c .before .before .before .before .before .before .before .before .args .x) in
     c .refused .ensures
-    ∙ ap eigen2 (sym (refuses (refused2 F) 7 (numbers2Of x) (answer2Of x) (c .before .before .both-finite .ensures) (c .before .if1 .left)))
+    ∙ sym (refuses (refused2 F) 7 (numbers2Of x) (answer2Of x) (c .before .before .both-finite .ensures) (c .before .if1 .left))
 
 pub judge-spec : {M : Type 1} → statement M
 judge-spec =

@@ -2,7 +2,7 @@
 use mathlib.Core.Path.{sym, ap, _∙_}
 use Rattle.float.specs.Width.{F}
 use Rattle.float.proofs.Judged.{stands, refuses}
-use Rattle.eigen.specs.Eigen2x2.{eigvals2, refusedValues2, values2Of}
+use Rattle.eigen.specs.Eigen2x2.{refusedValues2, values2Of}
 use borrow.Author.Needs.{needs}
 use Rattle.eigen.proofs.eigen2x2.judge_values.Statement.{statement}
 use Rattle.eigen.proofs.eigen2x2.judge_values.Tie as tie
@@ -10,13 +10,13 @@ use Rattle.eigen.proofs.eigen2x2.judge_values.Tie as tie
 returns : tie.Need-returns
 returns c =
     let v = c .before .before .before .args .t1 in
-    ap eigvals2 (sym (stands (refusedValues2 F) 7 v (values2Of v) (c .before .all-finite .ensures) (c .if1 .taken)))
+    (sym (stands (refusedValues2 F) 7 v (values2Of v) (c .before .all-finite .ensures) (c .if1 .taken)))
 
 returns-2 : tie.Need-returns-2
 returns-2 c =
     let v = c .before .before .before .before .args .t1 in
     c .refused-values .ensures
-    ∙ ap eigvals2 (sym (refuses (refusedValues2 F) 7 v (values2Of v) (c .before .before .all-finite .ensures) (c .before .if1 .left)))
+    ∙ sym (refuses (refusedValues2 F) 7 v (values2Of v) (c .before .before .all-finite .ensures) (c .before .if1 .left))
 
 pub judge-values-spec : {M : Type 1} → statement M
 judge-values-spec =

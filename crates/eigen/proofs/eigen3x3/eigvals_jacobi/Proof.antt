@@ -2,7 +2,7 @@
 use mathlib.Core.Path.{sym, ap, _∙_}
 use Rattle.float.specs.Width.{F}
 use Rattle.float.proofs.Judged.{stands, refuses}
-use Rattle.eigen.specs.Eigen3x3.{eigvals3, refusedValues, bareEndOf, eigvalsOf}
+use Rattle.eigen.specs.Eigen3x3.{refusedValues, bareEndOf, eigvalsOf}
 use borrow.Author.Needs.{needs}
 use Rattle.eigen.proofs.eigen3x3.eigvals_jacobi.Statement.{statement}
 use Rattle.eigen.proofs.eigen3x3.eigvals_jacobi.Tie as tie
@@ -13,14 +13,14 @@ returns c =
     let t = c .before .before .before in
     let a = t .before .before .before .args .a .«data» in
     rw (c .judge-values .ensures, c .before .work-values .ensures)
-    (ap eigvals3 (sym (stands (refusedValues F) 5 a _ (t .all-finite .ensures) (c .before .before .if1 .taken))))
+    (sym (stands (refusedValues F) 5 a _ (t .all-finite .ensures) (c .before .before .if1 .taken)))
 
 returns-2 : tie.Need-returns-2
 unfolding eigvalsOf bareEndOf
 returns-2 c =
     let t = c .before .before in
     let a = t .before .before .before .args .a .«data» in
-    c .refused-values .ensures ∙ ap eigvals3 (sym (refuses (refusedValues F) 5 a _ (t .all-finite .ensures) (c .before .if1 .left)))
+    c .refused-values .ensures ∙ sym (refuses (refusedValues F) 5 a _ (t .all-finite .ensures) (c .before .if1 .left))
 
 pub eigvals-jacobi-spec : {M : Type 1} → statement M
 eigvals-jacobi-spec =

@@ -2,7 +2,7 @@
 use mathlib.Core.Path.{sym, ap, _∙_}
 use Rattle.float.specs.Width.{F}
 use Rattle.float.proofs.Judged.{stands, refuses}
-use Rattle.eigen.specs.Eigen3x3.{ofWorking, eigen3, refusedEigen, numbersOf, answerOf}
+use Rattle.eigen.specs.Eigen3x3.{ofWorking, refusedEigen, numbersOf, answerOf}
 use borrow.Author.Needs.{needs}
 use Rattle.eigen.proofs.eigen3x3.judge.Statement.{statement}
 use Rattle.eigen.proofs.eigen3x3.judge.Tie as tie
@@ -12,14 +12,14 @@ returns c =
     let x = c .before .before .before .before .before .before .before .before .before .before .before in
     let s = ofWorking (x .before .args .w) in
     let e = rw (x .rank .ensures) at (c .before .before .before .both-finite .ensures) in
-    rw (x .rank .ensures, c .is-settled .ensures) (ap eigen3 (sym (stands (refusedEigen F) 7 (numbersOf s) (answerOf F s) e (c .before .before .if1 .taken))))
+    rw (x .rank .ensures, c .is-settled .ensures) (sym (stands (refusedEigen F) 7 (numbersOf s) (answerOf F s) e (c .before .before .if1 .taken)))
 
 returns-2 : tie.Need-returns-2
 returns-2 c =
     let x = c .before .before .before .before .before .before .before .before .before .before in
     let s = ofWorking (x .before .args .w) in
     let e = rw (x .rank .ensures) at (c .before .before .both-finite .ensures) in
-    c .refused .ensures ∙ ap eigen3 (sym (refuses (refusedEigen F) 7 (numbersOf s) (answerOf F s) e (c .before .if1 .left)))
+    c .refused .ensures ∙ sym (refuses (refusedEigen F) 7 (numbersOf s) (answerOf F s) e (c .before .if1 .left))
 
 pub judge-spec : {M : Type 1} → statement M
 judge-spec =

@@ -2,7 +2,7 @@
 use mathlib.Core.Path.{sym, ap, _∙_}
 use Rattle.float.specs.Width.{F}
 use Rattle.float.proofs.Judged.{stands, refuses}
-use Rattle.eigen.specs.Eigen3x3.{ofBare, eigvals3, refusedValues, valuesOf}
+use Rattle.eigen.specs.Eigen3x3.{ofBare, refusedValues, valuesOf}
 use borrow.Author.Needs.{needs}
 use Rattle.eigen.proofs.eigen3x3.judge_values.Statement.{statement}
 use Rattle.eigen.proofs.eigen3x3.judge_values.Tie as tie
@@ -12,13 +12,13 @@ returns c =
     let t = c .before .before .before .before in
     let s = ofBare (t .before .before .before .before .args .w) in
     rw (c .before .sort3 .ensures, c .is-settled .ensures)
-    (ap eigvals3 (sym (stands (refusedValues F) 7 (s .matrix) (valuesOf F s) (t .all-finite .ensures) (c .before .before .before .if1 .taken))))
+    (sym (stands (refusedValues F) 7 (s .matrix) (valuesOf F s) (t .all-finite .ensures) (c .before .before .before .if1 .taken)))
 
 returns-2 : tie.Need-returns-2
 returns-2 c =
     let s = ofBare (c .before .before .before .before .before .before .args .w) in
     let e = c .before .before .all-finite .ensures in
-    c .refused-values .ensures ∙ ap eigvals3 (sym (refuses (refusedValues F) 7 (s .matrix) (valuesOf F s) e (c .before .if1 .left)))
+    c .refused-values .ensures ∙ sym (refuses (refusedValues F) 7 (s .matrix) (valuesOf F s) e (c .before .if1 .left))
 
 pub judge-values-spec : {M : Type 1} → statement M
 judge-values-spec =

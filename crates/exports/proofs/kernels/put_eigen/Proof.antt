@@ -2,7 +2,6 @@
 use mathlib.Core.Path.{sym, _∙_}
 use borrow.Author.Needs.{needs}
 use lib.Seq.{take-all}
-use Rattle.eigen.specs.Eigen3x3.{ofEigen3}
 use Rattle.exports.specs.Kernels.{eigenNumbers}
 use Rattle.exports.proofs.kernels.put_eigen.Statement.{statement}
 use Rattle.exports.proofs.kernels.put_eigen.Tie as tie
@@ -13,7 +12,7 @@ returns c =
     let e₁ = p .put-three .ensures in
     let e₂ = rw e₁ at (c .before .before .before .before .before .before .put-mat3 .ensures) in
     let e₃ = rw e₂ at (c .before .before .put-sym3 .ensures) in
-    _∙_ {c = eigenNumbers (ofEigen3 (p .before .before .before .before .before .before .args .r))}
+    _∙_ {c = eigenNumbers (p .before .before .before .before .before .before .args .r)}
     (sym (take-all 18 (c .before .before .put-sym3 .last .0) (search needs))) e₃
 
 pub put-eigen-spec : {M : Type 1} → statement M

@@ -2,7 +2,6 @@
 use mathlib.Core.Path.{sym, _∙_}
 use borrow.Author.Needs.{needs}
 use lib.Seq.{take-all}
-use Rattle.svd.specs.Svd3x3.{ofSvd3}
 use Rattle.exports.specs.Kernels.{svdNumbers}
 use Rattle.exports.proofs.kernels.put_svd.Statement.{statement}
 use Rattle.exports.proofs.kernels.put_svd.Tie as tie
@@ -14,7 +13,7 @@ returns c =
     let e₂ = rw e₁ at (c .before .before .before .before .before .before .before .before .before .before .put-mat3 .ensures) in
     let e₃ = rw e₂ at (c .before .before .before .before .before .before .put-mat32 .ensures) in
     let e₄ = rw e₃ at (c .before .before .put-mat33 .ensures) in
-    _∙_ {c = svdNumbers (ofSvd3 (p .before .before .before .before .before .before .before .args .r))}
+    _∙_ {c = svdNumbers (p .before .before .before .before .before .before .before .args .r)}
     (sym (take-all 30 (c .before .before .put-mat33 .last .0) (search needs))) e₄
 
 pub put-svd-spec : {M : Type 1} → statement M

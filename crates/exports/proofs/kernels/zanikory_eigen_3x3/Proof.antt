@@ -2,7 +2,6 @@
 use mathlib.Core.Path.{refl, sym, ap, _∙_}
 use borrow.Author.Needs.{needs}
 use borrow.Author.Tests.{eq-eqb, ne-eqb}
-use Rattle.eigen.specs.Eigen3x3.{ofEigen3}
 use Rattle.eigen.specs.declared.eigen3x3.Eigen3.{Eigen3}
 use Rattle.exports.specs.Kernels.{eigenNumbers, eigen3Into}
 use Rattle.exports.proofs.kernels.zanikory_eigen_3x3.Statement.{statement}
@@ -30,7 +29,7 @@ returns-4 c =
     let e = rw (m .sym3-of .ensures) at (c .before .before .before .before .before .eigen-jacobi .ensures) in
     let k = sym (ap (λ (r : Eigen3). r .code) e) ∙ c .before .before .before .before .if3 .left in
     rw (eq-eqb _ 18 (m .before .before .if1 .left), eq-eqb _ 6 (m .before .if2 .left), eq-eqb _ 0 k)
-    (sym k, c .before .before .put-eigen .ensures ∙ ap (λ (r : Eigen3). eigenNumbers (ofEigen3 r)) e)
+    (sym k, c .before .before .put-eigen .ensures ∙ ap (λ (r : Eigen3). eigenNumbers r) e)
 
 pub zanikory-eigen-3x3-spec : {M : Type 1} → statement M
 zanikory-eigen-3x3-spec =

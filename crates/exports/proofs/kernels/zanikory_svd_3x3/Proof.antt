@@ -2,7 +2,6 @@
 use mathlib.Core.Path.{refl, sym, ap, _∙_}
 use borrow.Author.Needs.{needs}
 use borrow.Author.Tests.{eq-eqb, ne-eqb}
-use Rattle.svd.specs.Svd3x3.{ofSvd3}
 use Rattle.svd.specs.declared.svd3x3.Svd3.{Svd3}
 use Rattle.exports.specs.Kernels.{svdNumbers, svd3Into}
 use Rattle.exports.proofs.kernels.zanikory_svd_3x3.Statement.{statement}
@@ -30,7 +29,7 @@ returns-4 c =
     let e = rw (m .mat3-of .ensures) at (c .before .before .before .before .before .svd .ensures) in
     let k = sym (ap (λ (r : Svd3). r .code) e) ∙ c .before .before .before .before .if3 .left in
     rw (eq-eqb _ 30 (m .before .before .if1 .left), eq-eqb _ 9 (m .before .if2 .left), eq-eqb _ 0 k)
-    (sym k, c .before .before .put-svd .ensures ∙ ap (λ (r : Svd3). svdNumbers (ofSvd3 r)) e)
+    (sym k, c .before .before .put-svd .ensures ∙ ap (λ (r : Svd3). svdNumbers r) e)
 
 pub zanikory-svd-3x3-spec : {M : Type 1} → statement M
 zanikory-svd-3x3-spec =

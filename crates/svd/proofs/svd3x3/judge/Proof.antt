@@ -5,7 +5,7 @@ use borrow.Author.Needs.{needs}
 use Rattle.float.specs.Width.{F}
 use Rattle.float.specs.Sign.{allFinite}
 use Rattle.float.proofs.Judged.{stands, refuses}
-use Rattle.svd.specs.Svd3x3.{ofWorking, svd3, refusedSvd, numbersOf, answerOf}
+use Rattle.svd.specs.Svd3x3.{ofWorking, refusedSvd, numbersOf, answerOf}
 use Rattle.svd.specs.declared.order.Factors3.{Factors3}
 use Rattle.svd.proofs.svd3x3.judge.Statement.{statement}
 use Rattle.svd.proofs.svd3x3.judge.Tie as tie
@@ -29,7 +29,7 @@ returns-2 : tie.Need-returns-2
 returns-2 c =
     let test = c .before .before in
     let s = ofWorking (test .before .before .before .args .w) in
-    c .refused .ensures ∙ ap svd3 (sym (refuses (refusedSvd F) 7 (numbersOf s) (answerOf F s) (numbers test) (c .before .if1 .left)))
+    c .refused .ensures ∙ sym (refuses (refusedSvd F) 7 (numbersOf s) (answerOf F s) (numbers test) (c .before .if1 .left))
 
 pub judge-spec : {M : Type 1} → statement M
 judge-spec =
