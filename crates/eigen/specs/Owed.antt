@@ -7,7 +7,11 @@ use Rattle.eigen.specs.declared.eigen3x3.EigVals3.{EigVals3}
 use Rattle.eigen.specs.declared.eigen3x3.Eigen3.{Eigen3}
 
 abbrev pub eigenParts : Eigen3 → List Part
-eigenParts r = record { size = 3; numbers = r .values } ∷ record { size = 9; numbers = r .vectors .«data» } ∷ record { size = 6; numbers = r .worked .«data» } ∷ []
+eigenParts r =
+    record { size = 3; numbers = r .values }
+    ∷ record { size = 9; numbers = r .vectors .«data» }
+    ∷ record { size = 6; numbers = r .worked .«data» }
+    ∷ []
 
 abbrev pub valuesParts : EigVals3 → List Part
 valuesParts r = record { size = 3; numbers = r .values } ∷ record { size = 6; numbers = r .worked .«data» } ∷ []

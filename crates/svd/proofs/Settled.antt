@@ -45,7 +45,8 @@ settled-finite f a n e =
     )
 
 -- of the answer, and of the call: of any answer within the promise that the source states
-pub settled-means : (f : Format) (a : List Float) → length a ≡ 9 → svdOf f a .code ≡ 0 → Exactly (svdOf f a .settled ≡ true) (AllUnder f (svdOf f a .worked .«data»))
+pub settled-means : (f : Format) (a : List Float) → length a ≡ 9 → svdOf f a .code ≡ 0
+    → Exactly (svdOf f a .settled ≡ true) (AllUnder f (svdOf f a .worked .«data»))
 settled-means f a n e =
     let s = lastOf f a in
     let g = answered f a e in

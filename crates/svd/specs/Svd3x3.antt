@@ -59,7 +59,15 @@ lastOf f a = runOf f 25 (startOf f a)
 
 -- refused: all numbers +0, no rotation, not settled
 abbrev pub refusedSvd : Format → ℕ → Svd3
-refusedSvd f k = record { code = k; made = nothingMade; settled = false; values = zeros f 3; u = mat3 (zeros f 9); v = mat3 (zeros f 9); worked = mat3 (zeros f 9) }
+refusedSvd f k = record {
+  code = k;
+  made = nothingMade;
+  settled = false;
+  values = zeros f 3;
+  u = mat3 (zeros f 9);
+  v = mat3 (zeros f 9);
+  worked = mat3 (zeros f 9);
+}
 
 unfoldable pub factorsOf : State → Factors
 factorsOf s = orderOf (entry (s .matrix) 0 0) (entry (s .matrix) 1 1) (entry (s .matrix) 2 2) (s .u) (s .v)
