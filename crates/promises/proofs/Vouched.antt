@@ -2,7 +2,7 @@
 use mathlib.Core.Path.{_≡_, refl}
 use mathlib.Core.Bool.{true}
 use mathlib.Core.List.{List}
-use Prim.Native.Nat.{ℕ, _≤_}
+use Prim.Native.Nat.{ℕ}
 use native.Mathlib.Omega.{arith}
 use lib.Dec.{eqb, ltb}
 use lib.ListN.{length}
@@ -16,7 +16,7 @@ use Rattle.matrix.specs.Answer.{zeros}
 use Rattle.matrix.specs.Places.{at}
 use Rattle.matrix.proofs.Owed.{by-owed}
 use Rattle.matrix.proofs.Tables.{table-finite, zeros-finite}
-use Rattle.cholesky.specs.Factor.{FactorAnswer, factor2Of, factor3Of}
+use Rattle.cholesky.specs.Factor.{FactorAnswer}
 use Rattle.cholesky.specs.Solve.{SolvedAnswer}
 use Rattle.cholesky.proofs.Owed.{factor2-owed, factor3-owed, solved2-owed, solved3-owed}
 use Rattle.eigen.proofs.Owed.{eigen2-owed, eigen3-owed}
