@@ -11,11 +11,11 @@ use Rattle.float.specs.Sign.{allFinite}
 use Rattle.float.specs.Judged.{judgedCall}
 use Rattle.float.proofs.Choice.{by-eqb}
 use Rattle.float.proofs.Judged.{by-call}
-use Rattle.matrix.specs.Answer.{zeros}
+use Rattle.matrix.specs.Places.{zeros}
 use Rattle.matrix.proofs.Owed.{call-code}
 use Rattle.cholesky.specs.Factor.{FactorAnswer, ifWhole, refusedFactor, factorOf, steps2Of, factor2Of, steps3Of, factor3Of}
-use Rattle.cholesky.specs.Solve.{SolvedAnswer, refusedSolved, withSolution, factorAndSolveOf}
-use Rattle.cholesky.specs.Solve.{solution2Of, factorAndSolve2Of, solution3Of, factorAndSolve3Of}
+use Rattle.cholesky.specs.Solve.{SolvedAnswer, refusedSolved, withSolution, factorAndSolveOf, solution2Of, factorAndSolve2Of, solution3Of}
+use Rattle.cholesky.specs.Solve.{factorAndSolve3Of}
 use Rattle.cholesky.specs.Pivots.{pivots2Of, pivots3Of, oneAtMostZero, refusedPivot, Stops}
 use Rattle.cholesky.specs.Owed.{codeOf}
 use Rattle.cholesky.proofs.Stops.{steps2-stops, steps3-stops}

@@ -15,12 +15,11 @@ use Rattle.float.specs.Sign.{allFinite}
 use Rattle.float.proofs.Choice.{by-eqb}
 use Rattle.float.proofs.Finite.{parts-finite}
 use Rattle.float.proofs.Judged.{by-call}
-use Rattle.matrix.specs.Answer.{zeros}
+use Rattle.matrix.specs.Places.{zeros, triangular}
 use Rattle.matrix.specs.Owed.{Part, AllFull, Owed}
-use Rattle.matrix.specs.Places.{triangular}
 use Rattle.cholesky.specs.Factor.{FactorAnswer, ifWhole, refusedFactor, factorOf, steps2Of, factor2Of, steps3Of, factor3Of}
-use Rattle.cholesky.specs.Solve.{SolvedAnswer, refusedSolved, withSolution, factorAndSolveOf}
-use Rattle.cholesky.specs.Solve.{solution2Of, factorAndSolve2Of, solution3Of, factorAndSolve3Of}
+use Rattle.cholesky.specs.Solve.{SolvedAnswer, refusedSolved, withSolution, factorAndSolveOf, solution2Of, factorAndSolve2Of, solution3Of}
+use Rattle.cholesky.specs.Solve.{factorAndSolve3Of}
 use Rattle.cholesky.specs.Pivots.{oneAtMostZero, Stops}
 use Rattle.cholesky.specs.Owed.{leftFactor, factorParts, solvedParts}
 use Rattle.cholesky.proofs.Stops.{steps2-stops, steps3-stops, zero-or-six}

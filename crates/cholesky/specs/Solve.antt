@@ -5,8 +5,8 @@ use lib.Dec.{eqb}
 use lib.Ieee.{Float, Format, sub, mul, div}
 use Rattle.float.specs.Choice.{pick}
 use Rattle.float.specs.Judged.{judged}
-use Rattle.matrix.specs.Answer.{Answer, answerAll, onFirst, zeros}
-use Rattle.matrix.specs.Places.{at, triangular}
+use Rattle.matrix.specs.Answer.{Answer, answerAll, onFirst}
+use Rattle.matrix.specs.Places.{zeros, at, triangular}
 use Rattle.matrix.specs.Symmetric.{sym2, sym3}
 use Rattle.cholesky.specs.Factor.{FactorAnswer, ifWhole, steps2Of, steps3Of}
 use Rattle.cholesky.specs.declared.cholesky2x2.Solved2.{Solved2}

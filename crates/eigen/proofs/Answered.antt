@@ -3,10 +3,9 @@ use mathlib.Core.Path.{_≡_, refl}
 use mathlib.Core.List.{List}
 use lib.Ieee.{Float, Format}
 use Rattle.float.proofs.Judged.{Accepted, accepted}
-use Rattle.eigen.specs.Eigen3x3.{lastOf, bareLastOf, refusedEigen, numbersOf, answerOf, endOf}
-use Rattle.eigen.specs.Eigen3x3.{eigenOf, refusedValues, valuesOf, bareEndOf, eigvalsOf}
-use Rattle.eigen.specs.Eigen2x2.{solved2, refused2, numbers2Of, answer2Of, end2Of}
-use Rattle.eigen.specs.Eigen2x2.{eigen2Of, refusedValues2, values2Of, valuesEnd2Of, eigvals2Of}
+use Rattle.eigen.specs.Eigen3x3.{lastOf, refusedEigen, numbersOf, answerOf, endOf, eigenOf}
+use Rattle.eigen.specs.EigVals.{bareLastOf, refusedValues, valuesOf, bareEndOf, eigvalsOf, refusedValues2, values2Of, valuesEnd2Of, eigvals2Of}
+use Rattle.eigen.specs.Eigen2x2.{solved2, refused2, numbers2Of, answer2Of, end2Of, eigen2Of}
 use Rattle.eigen.specs.declared.eigen2x2.EigVals2.{EigVals2}
 use Rattle.eigen.specs.declared.eigen2x2.Eigen2.{Eigen2}
 use Rattle.eigen.specs.declared.eigen3x3.EigVals3.{EigVals3}

@@ -14,8 +14,8 @@ use Rattle.matrix.specs.declared.symmetric.Sym3.{Sym3}
 use Rattle.jacobi.specs.Order.{ascending}
 use Rattle.jacobi.proofs.Run.{keeps}
 use Rattle.jacobi.proofs.Placed.{values-alone}
-use Rattle.eigen.specs.Eigen3x3.{State, BareState, settledOf, stepOf, bareStepOf, runOf, bareRunOf, startOf, lastOf, diagonal, alone, nothingSwapped}
-use Rattle.eigen.specs.Eigen3x3.{sort3Of, rankedOf, answerOf, endOf, eigenOf, refusedValues, bareEndOf, eigvalsOf}
+use Rattle.eigen.specs.Eigen3x3.{State, settledOf, stepOf, runOf, startOf, lastOf, diagonal, rankedOf, answerOf, endOf, eigenOf}
+use Rattle.eigen.specs.EigVals.{BareState, bareStepOf, bareRunOf, alone, nothingSwapped, sort3Of, refusedValues, bareEndOf, eigvalsOf}
 use Rattle.eigen.specs.Ordered.{diagonalAxes}
 use Rattle.eigen.specs.Bare.{withoutVectors, VectorsLost, SameButVectors}
 use Rattle.eigen.specs.declared.eigen3x3.Eigen3.{Eigen3}

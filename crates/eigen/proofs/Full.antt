@@ -15,8 +15,8 @@ use Rattle.jacobi.specs.Order.{Ranked, swapped, ascending}
 use Rattle.jacobi.proofs.Run.{run-keeps}
 use Rattle.jacobi.proofs.Moves.{moved-finite, ordered-keeps, ordered3-keeps}
 use Rattle.jacobi.proofs.Sorted.{below3}
-use Rattle.eigen.specs.Eigen3x3.{State, BareState, settledOf, nextMatrix, nextVectors, stepOf, runOf, startOf}
-use Rattle.eigen.specs.Eigen3x3.{lastOf, bareLastOf, diagonal, alone, nothingSwapped, sort3Of, rankedOf}
+use Rattle.eigen.specs.Eigen3x3.{State, settledOf, nextMatrix, nextVectors, stepOf, runOf, startOf, lastOf, diagonal, rankedOf}
+use Rattle.eigen.specs.EigVals.{BareState, bareLastOf, alone, nothingSwapped, sort3Of}
 use Rattle.eigen.specs.Eigen2x2.{notBelow, axesOf, solved2}
 use Rattle.eigen.proofs.Bare.{same-run}
 use Rattle.eigen.proofs.Moved.{same-permutation, values-moved}

@@ -5,7 +5,8 @@ use lib.Ieee.{Float, Format}
 use Rattle.jacobi.specs.Order.{Ranked}
 use Rattle.jacobi.specs.Moved.{Permutation, Moved, ColumnsFollow}
 use Rattle.jacobi.proofs.Moves.{columns-carried, nothing-said, ordered-moves, ordered3-moves}
-use Rattle.eigen.specs.Eigen3x3.{State, rankOf, alone, nothingSwapped, sort3Of, rankedOf}
+use Rattle.eigen.specs.Eigen3x3.{State, rankOf, rankedOf}
+use Rattle.eigen.specs.EigVals.{alone, nothingSwapped, sort3Of}
 use Rattle.eigen.specs.Eigen2x2.{axesOf, solved2}
 use Rattle.eigen.specs.Ordered.{diagonalAxes, rotationAxes}
 

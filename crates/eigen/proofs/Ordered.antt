@@ -15,8 +15,9 @@ use Rattle.matrix.specs.declared.symmetric.Sym2.{Sym2}
 use Rattle.matrix.specs.declared.symmetric.Sym3.{Sym3}
 use Rattle.jacobi.proofs.Moves.{each-before}
 use Rattle.jacobi.proofs.Sorted.{upward, upward-ties, sorts2, sorts3}
-use Rattle.eigen.specs.Eigen3x3.{State, lastOf, bareLastOf, diagonal, alone, nothingSwapped, rankedOf, eigenOf, eigvalsOf}
-use Rattle.eigen.specs.Eigen2x2.{axesOf, solved2, eigen2Of, eigvals2Of}
+use Rattle.eigen.specs.Eigen3x3.{State, lastOf, diagonal, rankedOf, eigenOf}
+use Rattle.eigen.specs.EigVals.{bareLastOf, alone, nothingSwapped, eigvalsOf, eigvals2Of}
+use Rattle.eigen.specs.Eigen2x2.{axesOf, solved2, eigen2Of}
 use Rattle.eigen.specs.Ordered.{InOrder, ValuesInOrder, diagonalAxes, rotationAxes}
 use Rattle.eigen.specs.declared.eigen2x2.Eigen2.{Eigen2}
 use Rattle.eigen.specs.declared.eigen2x2.EigVals2.{EigVals2}

@@ -10,10 +10,9 @@ use Rattle.float.specs.Sign.{allFinite}
 use Rattle.float.proofs.Finite.{parts-finite}
 use Rattle.matrix.specs.Owed.{Owed}
 use Rattle.matrix.proofs.Owed.{call-code, call-owed}
-use Rattle.eigen.specs.Eigen3x3.{lastOf, bareLastOf, diagonal, rankedOf, refusedEigen, numbersOf, answerOf}
-use Rattle.eigen.specs.Eigen3x3.{endOf, eigenOf, refusedValues, valuesOf, bareEndOf, eigvalsOf}
-use Rattle.eigen.specs.Eigen2x2.{solved2, refused2, numbers2Of, answer2Of, end2Of}
-use Rattle.eigen.specs.Eigen2x2.{eigen2Of, refusedValues2, values2Of, valuesEnd2Of, eigvals2Of}
+use Rattle.eigen.specs.Eigen3x3.{lastOf, diagonal, rankedOf, refusedEigen, numbersOf, answerOf, endOf, eigenOf}
+use Rattle.eigen.specs.EigVals.{bareLastOf, refusedValues, valuesOf, bareEndOf, eigvalsOf, refusedValues2, values2Of, valuesEnd2Of, eigvals2Of}
+use Rattle.eigen.specs.Eigen2x2.{solved2, refused2, numbers2Of, answer2Of, end2Of, eigen2Of}
 use Rattle.eigen.specs.Owed.{eigenParts, valuesParts, eigen2Parts, values2Parts}
 use Rattle.eigen.proofs.Full.{last-filled, bare-filled, ranked-full, ranked-finite, sort-full, sort-finite, solved-full}
 use Rattle.eigen.specs.declared.eigen2x2.EigVals2.{EigVals2}

@@ -11,7 +11,8 @@ use Rattle.jacobi.specs.Run.{oneMore}
 use Rattle.jacobi.specs.declared.made.Made.{Made}
 use Rattle.jacobi.specs.declared.pairs.OffDiag.{OffDiag}
 use Rattle.eigen.specs.Pairs.{offDiagOf, turnedPair}
-use Rattle.eigen.specs.Eigen3x3.{State, BareState, settledOf, nextMatrix, nextVectors, stepOf, bareStepOf}
+use Rattle.eigen.specs.Eigen3x3.{State, settledOf, nextMatrix, nextVectors, stepOf}
+use Rattle.eigen.specs.EigVals.{BareState, bareStepOf}
 use Rattle.eigen.specs.declared.pairs.Turned.{Turned}
 
 module _ (f : Format) (a : List Float) {largest : OffDiag} (is : largest ≡ offDiagOf a) where

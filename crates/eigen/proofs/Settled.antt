@@ -12,7 +12,7 @@ use Rattle.float.specs.Sign.{magnitudeOf, finite, allFinite}
 use Rattle.float.proofs.Finite.{at-finite, parts-finite, magnitude-finite}
 use Rattle.float.proofs.Under.{finite-no-nan, limit-finite}
 use Rattle.matrix.specs.declared.symmetric.Sym3.{Sym3}
-use Rattle.jacobi.specs.Pairs.{sizeAt}
+use Rattle.jacobi.specs.Largest.{sizeAt}
 use Rattle.jacobi.specs.declared.pairs.Pair.{Pair}
 use Rattle.jacobi.specs.declared.pairs.Pair.the-variants.{P12, P13, P23}
 use Rattle.jacobi.proofs.Largest.{all-under}

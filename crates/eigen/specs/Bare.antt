@@ -5,7 +5,8 @@ use mathlib.Core.Logic.{_⊎_}
 use mathlib.Core.List.{List}
 use lib.Ieee.{Float, Format}
 use Rattle.float.specs.Sign.{allFinite}
-use Rattle.eigen.specs.Eigen3x3.{lastOf, rankedOf, refusedEigen, answerOf, eigenOf, eigvalsOf}
+use Rattle.eigen.specs.Eigen3x3.{lastOf, rankedOf, refusedEigen, answerOf, eigenOf}
+use Rattle.eigen.specs.EigVals.{eigvalsOf}
 use Rattle.eigen.specs.declared.eigen3x3.Eigen3.{Eigen3}
 use Rattle.eigen.specs.declared.eigen3x3.EigVals3.{EigVals3}
 

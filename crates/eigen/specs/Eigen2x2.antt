@@ -4,14 +4,12 @@ use mathlib.Core.List.{List, [], _∷_, _++_}
 use Prim.Native.Nat.{ℕ}
 use lib.Ieee.{Float, Format, add, sub, mul, lt, neg}
 use Rattle.float.specs.Judged.{judgedCall}
-use Rattle.matrix.specs.Answer.{zeros}
-use Rattle.matrix.specs.Places.{at}
+use Rattle.matrix.specs.Places.{zeros, at}
 use Rattle.matrix.specs.Square.{mat2, exchangeOf}
 use Rattle.jacobi.specs.Rotation.{rotationOf}
 use Rattle.jacobi.specs.Order.{Ranked, ordered}
 use Rattle.jacobi.specs.declared.rotation.Rotation.{Rotation}
 use Rattle.eigen.specs.declared.eigen2x2.Eigen2.{Eigen2}
-use Rattle.eigen.specs.declared.eigen2x2.EigVals2.{EigVals2}
 use Rattle.eigen.specs.declared.eigen2x2.Axes2.{Axes2}
 
 -- two values, and the vectors by columns
@@ -41,7 +39,7 @@ axesOf r e1 e2 = ordered 2 notBelow (exchangeOf 2) 0 1 (record { values = e1 ∷
 unfoldable pub solved2 : Format → List Float → Ranked (List Float)
 solved2 f a = axesOf (turn2Of f a) (lowerOf f (turn2Of f a) a) (upperOf f (turn2Of f a) a)
 
--- ---- the answers, with and without vectors
+-- ---- the answer
 
 abbrev pub refused2 : Format → ℕ → Eigen2
 refused2 f k = record { code = k; settled = false; values = zeros f 2; vectors = mat2 (zeros f 4) }
@@ -59,15 +57,3 @@ end2Of f a x = judgedCall (refused2 f) a (numbers2Of x) (answer2Of x)
 
 unfoldable pub eigen2Of : Format → List Float → Eigen2
 eigen2Of f a = end2Of f a (solved2 f a)
-
-abbrev pub refusedValues2 : Format → ℕ → EigVals2
-refusedValues2 f k = record { code = k; settled = false; values = zeros f 2 }
-
-abbrev pub values2Of : List Float → EigVals2
-values2Of values = record { code = 0; settled = true; values = values }
-
-unfoldable pub valuesEnd2Of : Format → List Float → List Float → EigVals2
-valuesEnd2Of f a values = judgedCall (refusedValues2 f) a values (values2Of values)
-
-unfoldable pub eigvals2Of : Format → List Float → EigVals2
-eigvals2Of f a = valuesEnd2Of f a (solved2 f a .values)

@@ -5,19 +5,17 @@ use Prim.Native.Nat.{ℕ}
 use lib.Ieee.{Float, Format, lt}
 use Rattle.float.specs.Constants.{limitF}
 use Rattle.float.specs.Judged.{judgedCall}
-use Rattle.matrix.specs.Answer.{zeros}
+use Rattle.matrix.specs.Places.{zeros}
 use Rattle.matrix.specs.Square.{mat3, identityOf, exchangeOf}
 use Rattle.matrix.specs.Symmetric.{sym3}
 use Rattle.jacobi.specs.Pairs.{turnedOf}
 use Rattle.jacobi.specs.Run.{run, nothingMade, oneMore}
-use Rattle.jacobi.specs.Order.{Ranked, ordered, ordered3, ascending}
+use Rattle.jacobi.specs.Order.{Ranked, ordered3, ascending}
 use Rattle.jacobi.specs.declared.made.Made.{Made}
 use Rattle.eigen.specs.Pairs.{entry, offDiagOf, pairOf, chosenOf, appliedOf}
 use Rattle.eigen.specs.declared.order.Sorted.{Sorted}
 use Rattle.eigen.specs.declared.eigen3x3.Working.{Working}
-use Rattle.eigen.specs.declared.eigen3x3.Bare.{Bare}
 use Rattle.eigen.specs.declared.eigen3x3.Eigen3.{Eigen3}
-use Rattle.eigen.specs.declared.eigen3x3.EigVals3.{EigVals3}
 
 -- ---- a working state: the packed matrix, the vectors by columns, what the run made
 
@@ -31,17 +29,6 @@ working s = record { a = sym3 (s .matrix); v = mat3 (s .vectors); made = s .made
 
 abbrev pub ofWorking : Working → State
 ofWorking w = record { matrix = w .a .«data»; vectors = w .v .«data»; made = w .made }
-
--- the same without vectors
-pub record BareState : Type 0 where
-  pub matrix : List Float
-  pub made : Made
-
-abbrev pub bare : BareState → Bare
-bare s = record { a = sym3 (s .matrix); made = s .made }
-
-abbrev pub ofBare : Bare → BareState
-ofBare w = record { matrix = w .a .«data»; made = w .made }
 
 -- ---- the test: the largest magnitude beside the diagonal is strictly under the limit
 
@@ -59,30 +46,18 @@ nextVectors f a v = turnedOf f (pairOf a) (chosenOf f a .c) (chosenOf f a .s) v
 unfoldable pub stepOf : Format → State → State
 stepOf f s = record { matrix = nextMatrix f (s .matrix); vectors = nextVectors f (s .matrix) (s .vectors); made = oneMore (s .made) }
 
-unfoldable pub bareStepOf : Format → BareState → BareState
-bareStepOf f s = record { matrix = nextMatrix f (s .matrix); made = oneMore (s .made) }
-
 -- ---- at most k rotations, and the last state of a call's 25
 
 unfoldable pub runOf : Format → ℕ → State → State
 runOf f k s = run (stepOf f) (λ (s : State). settledOf f (s .matrix)) k s
 
-unfoldable pub bareRunOf : Format → ℕ → BareState → BareState
-bareRunOf f k s = run (bareStepOf f) (λ (s : BareState). settledOf f (s .matrix)) k s
-
 abbrev pub startOf : Format → List Float → State
 startOf f a = record { matrix = a; vectors = identityOf f 3; made = nothingMade }
-
-abbrev pub bareStartOf : List Float → BareState
-bareStartOf a = record { matrix = a; made = nothingMade }
 
 abbrev pub lastOf : Format → List Float → State
 lastOf f a = runOf f 25 (startOf f a)
 
-abbrev pub bareLastOf : Format → List Float → BareState
-bareLastOf f a = bareRunOf f 25 (bareStartOf a)
-
--- ---- the diagonal in order, with its columns and alone
+-- ---- the diagonal in order, with its columns
 
 abbrev pub diagonal : List Float → List Float
 diagonal a = entry a 0 0 ∷ entry a 1 1 ∷ entry a 2 2 ∷ []
@@ -95,19 +70,6 @@ ranked w = record { values = w .values; carried = w .columns .«data» }
 
 abbrev pub rankOf : Ranked (List Float) → Ranked (List Float)
 rankOf = ordered3 3 ascending (exchangeOf 3)
-
--- values alone, with nothing to carry along
-abbrev pub alone : List Float → Ranked (Unit {0})
-alone v = record { values = v; carried = tt }
-
-abbrev pub nothingSwapped : ℕ → ℕ → Unit {0} → Unit {0}
-nothingSwapped i j u = u
-
-abbrev pub orderedValues : ℕ → ℕ → List Float → List Float
-orderedValues i j v = ordered 3 ascending nothingSwapped i j (alone v) .values
-
-abbrev pub sort3Of : List Float → List Float
-sort3Of v = ordered3 3 ascending nothingSwapped (alone v) .values
 
 unfoldable pub rankedOf : State → Ranked (List Float)
 rankedOf s = rankOf (record { values = diagonal (s .matrix); carried = s .vectors })
@@ -138,17 +100,3 @@ endOf f a s = judgedCall (refusedEigen f) a (numbersOf s) (answerOf f s)
 
 unfoldable pub eigenOf : Format → List Float → Eigen3
 eigenOf f a = endOf f a (lastOf f a)
-
--- ---- the answer without vectors
-
-abbrev pub refusedValues : Format → ℕ → EigVals3
-refusedValues f k = record { code = k; made = nothingMade; settled = false; values = zeros f 3; worked = sym3 (zeros f 6) }
-
-abbrev pub valuesOf : Format → BareState → EigVals3
-valuesOf f s = record { code = 0; made = s .made; settled = settledOf f (s .matrix); values = sort3Of (diagonal (s .matrix)); worked = sym3 (s .matrix) }
-
-unfoldable pub bareEndOf : Format → List Float → BareState → EigVals3
-bareEndOf f a s = judgedCall (refusedValues f) a (s .matrix) (valuesOf f s)
-
-unfoldable pub eigvalsOf : Format → List Float → EigVals3
-eigvalsOf f a = bareEndOf f a (bareLastOf f a)

@@ -1,6 +1,7 @@
 pub mod Pairs
 pub mod Eigen3x3
 pub mod Eigen2x2
+pub mod EigVals
 pub mod Counted
 pub mod Bare
 pub mod Ordered

@@ -4,7 +4,8 @@ use Prim.Native.Nat.{ℕ}
 use lib.Ieee.{Float, Format, neg, le}
 use Rattle.jacobi.specs.Order.{Ranked}
 use Rattle.jacobi.specs.Moved.{Permutation, Moved, ColumnsFollow, Sorted}
-use Rattle.eigen.specs.Eigen3x3.{State, diagonal, alone}
+use Rattle.eigen.specs.Eigen3x3.{State, diagonal}
+use Rattle.eigen.specs.EigVals.{alone}
 use Rattle.eigen.specs.Eigen2x2.{turn2Of, lowerOf, upperOf}
 
 -- y is x by one permutation, with its values ascending, compared as numbers

@@ -12,8 +12,8 @@ use matrix::symmetric::Sym2;
 ghost use mathlib.Core.Path.{_≡_};
 ghost use Rattle.float.specs.Width.{F};
 ghost use Rattle.float.specs.Judged.{judged};
-ghost use Rattle.eigen.specs.Eigen2x2.{axes2, ofAxes2, axesOf, solved2, refused2, numbers2Of, answer2Of, eigen2Of, refusedValues2};
-ghost use Rattle.eigen.specs.Eigen2x2.{values2Of, eigvals2Of};
+ghost use Rattle.eigen.specs.Eigen2x2.{axes2, ofAxes2, axesOf, solved2, refused2, numbers2Of, answer2Of, eigen2Of};
+ghost use Rattle.eigen.specs.EigVals.{refusedValues2, values2Of, eigvals2Of};
 
 // Two values and their vectors.
 pub struct Axes2 {

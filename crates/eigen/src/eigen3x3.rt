@@ -21,8 +21,8 @@ ghost use lib.Ieee.{lt};
 ghost use Rattle.float.specs.Width.{F};
 ghost use Rattle.float.specs.Constants.{limitF};
 ghost use Rattle.float.specs.Judged.{judged};
-ghost use Rattle.eigen.specs.Eigen3x3.{working, bare, ofWorking, ofBare, settledOf, lastOf, bareLastOf, sorted, rankedOf, refusedEigen};
-ghost use Rattle.eigen.specs.Eigen3x3.{numbersOf, answerOf, eigenOf, refusedValues, valuesOf, eigvalsOf};
+ghost use Rattle.eigen.specs.Eigen3x3.{working, ofWorking, settledOf, lastOf, sorted, rankedOf, refusedEigen, numbersOf, answerOf, eigenOf};
+ghost use Rattle.eigen.specs.EigVals.{bare, ofBare, bareLastOf, refusedValues, valuesOf, eigvalsOf};
 
 // A working state.
 pub struct Working {

@@ -5,7 +5,8 @@ ghost use mathlib.Core.Path.{_≡_};
 ghost use mathlib.Core.List.{[], _∷_};
 ghost use Rattle.matrix.specs.Square.{exchangeOf};
 ghost use Rattle.jacobi.specs.Order.{ordered, ascending};
-ghost use Rattle.eigen.specs.Eigen3x3.{sorted, ranked, orderedValues, sort3Of, rankOf};
+ghost use Rattle.eigen.specs.Eigen3x3.{sorted, ranked, rankOf};
+ghost use Rattle.eigen.specs.EigVals.{orderedValues, sort3Of};
 
 // Values, and the columns that belong to them.
 pub struct Sorted {

@@ -3,8 +3,7 @@ use mathlib.Core.List.{List, _++_}
 use Prim.Native.Nat.{ℕ, _*_}
 use lib.Ieee.{Float, Format}
 use Rattle.matrix.specs.Answer.{Answer}
-use Rattle.matrix.specs.Square.{mulOf}
-use Rattle.matrix.specs.Symmetric.{symMulOf}
+use Rattle.matrix.specs.Arithmetic.{mulOf, symMulOf}
 use Rattle.cholesky.specs.Factor.{FactorAnswer, factor2Of, factor3Of}
 use Rattle.cholesky.specs.Solve.{solve2Of, solve3Of}
 use Rattle.eigen.specs.Eigen3x3.{eigenOf}

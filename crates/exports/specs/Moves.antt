@@ -4,8 +4,9 @@ use mathlib.Core.List.{List}
 use Prim.Native.Nat.{ℕ, _*_}
 use lib.Ieee.{Float, Format}
 use Rattle.matrix.specs.Answer.{Answer, done}
-use Rattle.matrix.specs.Places.{squareIndex, packedIndex, triangular, readOf, writeOf}
-use Rattle.matrix.specs.Square.{identityOf, transposeOf, swapColumnsOf, flipColumnOf}
+use Rattle.matrix.specs.Places.{squareIndex, packedIndex, triangular}
+use Rattle.matrix.specs.Indexed.{readOf, writeOf, swapColumnsOf, flipColumnOf}
+use Rattle.matrix.specs.Square.{identityOf, transposeOf}
 use Rattle.exports.specs.Slices.{into, given, alone}
 use Rattle.exports.specs.declared.moves.Move.{Move}
 use Rattle.exports.specs.declared.moves.Move.the-variants.{Transpose, SwapColumns, FlipColumn, Write, Identity}

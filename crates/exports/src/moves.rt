@@ -20,7 +20,7 @@ ghost use mathlib.Core.Path.{_≡_};
 ghost use lib.ListN.{length};
 ghost use Rattle.float.specs.Width.{F};
 ghost use Rattle.matrix.specs.Answer.{Outcome, entry};
-ghost use Rattle.matrix.specs.Square.{mat2Answer, mat3Answer};
+ghost use Rattle.matrix.specs.Indexed.{mat2Answer, mat3Answer};
 ghost use Rattle.exports.specs.Slices.{alone};
 ghost use Rattle.exports.specs.Moves.{moveOf, movedOf, squareReadOf, packedReadOf, packedWriteOf};
 

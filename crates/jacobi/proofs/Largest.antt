@@ -9,7 +9,8 @@ use Rattle.float.specs.Exactly.{Exactly}
 use Rattle.float.specs.Sign.{finite}
 use Rattle.float.proofs.Keys.{key, Within, key-below, key-not-below, below-of-keys, not-below-of-keys, keyed}
 use Rattle.float.proofs.Under.{under, not-above}
-use Rattle.jacobi.specs.Pairs.{largerPair, largestOf, sizeAt, Earlier, Largest}
+use Rattle.jacobi.specs.Pairs.{largerPair, largestOf}
+use Rattle.jacobi.specs.Largest.{sizeAt, Earlier, Largest}
 use Rattle.jacobi.specs.declared.pairs.Pair.{Pair}
 use Rattle.jacobi.specs.declared.pairs.Pair.the-variants.{P12, P13, P23}
 use Rattle.jacobi.specs.declared.pairs.OffDiag.{OffDiag}

@@ -1,5 +1,6 @@
 pub mod Rotation
 pub mod Pairs
+pub mod Largest
 pub mod Run
 pub mod Order
 pub mod Moved

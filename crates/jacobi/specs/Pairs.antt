@@ -1,8 +1,6 @@
 -- The three pairs of a 3x3, which of them is the largest, and what a rotation of one makes of two columns. Definitions only.
-use mathlib.Core.Path.{_≡_}
-use mathlib.Core.Bool.{true, false}
 use mathlib.Core.List.{List}
-use Prim.Native.Nat.{ℕ, _<_}
+use Prim.Native.Nat.{ℕ}
 use lib.Dec.{eqb}
 use lib.Ieee.{Float, Format, add, sub, mul, lt}
 use Rattle.float.specs.Choice.{pick}
@@ -44,22 +42,6 @@ largerPair best next = pick (lt (best .size) (next .size)) next best
 
 unfoldable pub largestOf : Float → Float → Float → OffDiag
 largestOf x12 x13 x23 = largerPair (largerPair (record { pair = P12; size = x12 }) (record { pair = P13; size = x13 })) (record { pair = P23; size = x23 })
-
--- the number of a pair among three
-abbrev pub sizeAt : Pair → Float → Float → Float → Float
-sizeAt P12 x12 x13 x23 = x12
-sizeAt P13 x12 x13 x23 = x13
-sizeAt P23 x12 x13 x23 = x23
-
--- the pairs stand in the order P12, P13, P23: the third index falls
-abbrev pub Earlier : Pair → Pair → Type 0
-Earlier p q = indexK q < indexK p
-
--- o is the largest of three numbers and the first of equals: it has its pair's number, no number is above it, and every earlier one is below it
-pub record Largest (x12 x13 x23 : Float) (o : OffDiag) : Type 0 where
-  pub own : o .size ≡ sizeAt (o .pair) x12 x13 x23
-  pub most : (p : Pair) → lt (o .size) (sizeAt p x12 x13 x23) ≡ false
-  pub first : (p : Pair) → Earlier p (o .pair) → lt (sizeAt p x12 x13 x23) (o .size) ≡ true
 
 -- ---- two columns turn into each other, by the cosine c and the sine s alone
 

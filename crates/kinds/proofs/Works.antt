@@ -12,7 +12,7 @@ use lib.Ieee.{Float, Format}
 use Rattle.float.specs.Sign.{allFinite}
 use Rattle.float.proofs.Choice.{chosen, by-eqb}
 use Rattle.float.proofs.Finite.{append-passes}
-use Rattle.matrix.specs.Answer.{zeros}
+use Rattle.matrix.specs.Places.{zeros}
 use Rattle.matrix.proofs.Owed.{not-five}
 use Rattle.cholesky.specs.Factor.{FactorAnswer, factor2Of, factor3Of}
 use Rattle.cholesky.specs.Solve.{factorAndSolve2Of, factorAndSolve3Of}

@@ -7,8 +7,7 @@ use lib.Dec.{eqb, ltb}
 use lib.Ieee.{Float, Format}
 use Rattle.float.specs.Choice.{pick}
 use Rattle.float.specs.Constants.{zeroF}
-use Rattle.matrix.specs.Answer.{zeros}
-use Rattle.matrix.specs.Places.{at, tabulate}
+use Rattle.matrix.specs.Places.{zeros, at, tabulate}
 use Rattle.cholesky.specs.Factor.{FactorAnswer, factor2Of, factor3Of}
 use Rattle.cholesky.specs.Solve.{SolvedAnswer, factorAndSolve2Of, factorAndSolve3Of}
 use Rattle.eigen.specs.Eigen2x2.{eigen2Of}

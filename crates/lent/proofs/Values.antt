@@ -3,7 +3,7 @@ use mir.Val.{Val}
 use denote.Struct.Laws as struct
 use denote.Enum.Laws as enum
 use Rattle.float.specs.Width.{F}
-use Rattle.matrix.specs.Symmetric.{sym3Answer}
+use Rattle.matrix.specs.Indexed.{sym3Answer}
 use Rattle.matrix.specs.declared.symmetric.Sym3.{Sym3}
 use Rattle.matrix.specs.declared.symmetric.Sym3Answer.{Sym3Answer}
 use Rattle.matrix.proofs.symmetric.Sym3 as S

@@ -10,7 +10,7 @@ use matrix::symmetric::Sym3;
 use matrix::symmetric::Sym3Answer;
 ghost use mathlib.Core.Path.{_≡_};
 ghost use Rattle.float.specs.Width.{F};
-ghost use Rattle.matrix.specs.Symmetric.{sym3Answer};
+ghost use Rattle.matrix.specs.Indexed.{sym3Answer};
 ghost use Rattle.lent.specs.InPlace.{rotatedOf, Left};
 
 // The code and the matrix that is to stand afterwards, the old one on refusal.

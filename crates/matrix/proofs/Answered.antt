@@ -7,7 +7,8 @@ use borrow.Author.Tests.{ltb-true, lt-ltb, le-ltb}
 use lib.Dec.{ltb}
 use Rattle.float.specs.Choice.{pick}
 use Rattle.matrix.specs.Answer.{Answer, done, refused, place}
-use Rattle.matrix.specs.Places.{squareIndex, triangular, packedIndex, inside, indexOf}
+use Rattle.matrix.specs.Places.{squareIndex, triangular, packedIndex}
+use Rattle.matrix.specs.Indexed.{inside, indexOf}
 use Rattle.matrix.specs.declared.answers.Place.{Place}
 use Rattle.matrix.specs.declared.answers.Place.the-variants.{At, Outside}
 use Rattle.matrix.proofs.Placing.{square-below, packed-below}

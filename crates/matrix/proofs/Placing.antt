@@ -12,7 +12,8 @@ use lib.Ieee.{Float, Format}
 use Rattle.float.specs.Choice.{pick}
 use Rattle.float.proofs.Choice.{by-ltb}
 use Rattle.matrix.specs.Answer.{done, refused}
-use Rattle.matrix.specs.Places.{squareIndex, triangular, packedIndex, inside, readOf}
+use Rattle.matrix.specs.Places.{squareIndex, triangular, packedIndex}
+use Rattle.matrix.specs.Indexed.{inside, readOf}
 
 -- ---- places below the size
 

@@ -3,7 +3,7 @@ use mathlib.Core.Path.{_≡_, refl, ap, _∙_}
 use Prim.Native.Nat.{ℕ, zero, suc}
 use lib.Ieee.{Float, Format, binary32, binary64, ofBits, add, neg}
 use Rattle.float.specs.Constants.{zeroF}
-use Rattle.matrix.specs.Square.{sumOf}
+use Rattle.matrix.specs.Arithmetic.{sumOf}
 
 zero-stays : (f : Format) → add f (zeroF f) (neg (zeroF f)) ≡ zeroF f
 unfolding add neg ofBits

@@ -10,8 +10,7 @@ use lib.Seq.{take-all, sets, sets-eq}
 use lib.Ieee.{Float, Format}
 use Rattle.float.specs.Sign.{finite, allFinite}
 use Rattle.float.proofs.Finite.{zero-finite}
-use Rattle.matrix.specs.Answer.{zeros}
-use Rattle.matrix.specs.Places.{at, tabulate}
+use Rattle.matrix.specs.Places.{zeros, at, tabulate}
 
 pub length-tabulate : (n : ℕ) (g : ℕ → Float) → length (tabulate n g) ≡ n
 length-tabulate zero g = refl

@@ -3,11 +3,12 @@ use mathlib.Core.Path.{_≡_}
 use mathlib.Core.List.{List, [], _∷_, _++_}
 use Prim.Native.Nat.{ℕ}
 use lib.Dec.{leb, eqb}
-use lib.ListN.{length, take, drop, replicate}
+use lib.ListN.{length, take, drop}
 use lib.Ieee.{Float, Format}
 use Rattle.float.specs.Choice.{pick}
 use Rattle.float.specs.Constants.{zeroF}
 use Rattle.float.specs.Judged.{judged, judgedCall}
+use Rattle.matrix.specs.Places.{zeros}
 use Rattle.matrix.specs.declared.answers.Place.{Place}
 use Rattle.matrix.specs.declared.answers.Place.the-variants as place-is
 use Rattle.matrix.specs.declared.answers.Entry.{Entry}
@@ -44,9 +45,6 @@ scalar f scalar-is.InputNotFinite = refused 5 (zeroF f)
 scalar f scalar-is.AnswerNotFinite = refused 7 (zeroF f)
 
 -- ---- one number, or n of them, worked out: 7 where one is not finite
-
-abbrev pub zeros : Format → ℕ → List Float
-zeros f n = replicate n (zeroF f)
 
 abbrev pub refusedOne : Format → ℕ → Answer Float
 refusedOne f k = refused k (zeroF f)

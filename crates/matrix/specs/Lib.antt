@@ -1,5 +1,7 @@
-pub mod Answer
-pub mod Owed
 pub mod Places
 pub mod Square
 pub mod Symmetric
+pub mod Answer
+pub mod Indexed
+pub mod Arithmetic
+pub mod Owed

@@ -17,7 +17,7 @@ use float::width::Real;
 ghost use mathlib.Core.Path.{_≡_};
 ghost use Rattle.float.specs.Width.{F};
 ghost use Rattle.matrix.specs.Answer.{Outcome, scalar, numbers3};
-ghost use Rattle.matrix.specs.Symmetric.{rowOf, symTimesOf, symProductOf, symMulOf, quadOf, quadJudgedOf, quadFormOf, normOf, normFroOf};
+ghost use Rattle.matrix.specs.Arithmetic.{rowOf, symTimesOf, symProductOf, symMulOf, quadOf, quadJudgedOf, quadFormOf, normOf, normFroOf};
 
 // a x0 + b x1 + c x2
 fn row(a: Real, b: Real, c: Real, x: [Real; 3]) -> Real

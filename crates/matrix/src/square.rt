@@ -19,10 +19,11 @@ use float::width::Real;
 ghost use mathlib.Core.Path.{_≡_};
 ghost use Prim.Native.Nat.{_≤_, _<_};
 ghost use Rattle.float.specs.Width.{F};
-ghost use Rattle.matrix.specs.Answer.{Outcome, place, entry, zeros, numbers2, numbers3};
-ghost use Rattle.matrix.specs.Places.{squareIndex, indexOf, readOf, writeOf};
-ghost use Rattle.matrix.specs.Square.{mat2, mat3, mat2Answer, mat3Answer, identityOf, transposeOf, exchangeOf, negateOf, swapColumnsOf, flipColumnOf};
-ghost use Rattle.matrix.specs.Square.{timesOf, productOf, mulOf};
+ghost use Rattle.matrix.specs.Answer.{Outcome, place, entry, numbers2, numbers3};
+ghost use Rattle.matrix.specs.Places.{zeros, squareIndex};
+ghost use Rattle.matrix.specs.Indexed.{indexOf, readOf, writeOf, mat2Answer, mat3Answer, swapColumnsOf, flipColumnOf};
+ghost use Rattle.matrix.specs.Square.{mat2, mat3, identityOf, transposeOf, exchangeOf, negateOf};
+ghost use Rattle.matrix.specs.Arithmetic.{timesOf, productOf, mulOf};
 
 pub struct Mat2 {
     pub data: [Real; 4],

@@ -12,9 +12,11 @@ use float::width::Real;
 ghost use mathlib.Core.Path.{_≡_};
 ghost use Prim.Native.Nat.{_≤_};
 ghost use Rattle.float.specs.Width.{F};
-ghost use Rattle.matrix.specs.Answer.{place, entry, zeros, refusedAll, judgedAll};
-ghost use Rattle.matrix.specs.Places.{packedIndex, indexOf, readOf, writeOf};
-ghost use Rattle.matrix.specs.Symmetric.{sym2, sym3, sym2Answer, sym3Answer, scaledOf, scaledFromOf};
+ghost use Rattle.matrix.specs.Answer.{place, entry, refusedAll, judgedAll};
+ghost use Rattle.matrix.specs.Places.{zeros, packedIndex};
+ghost use Rattle.matrix.specs.Indexed.{indexOf, readOf, writeOf, sym2Answer, sym3Answer};
+ghost use Rattle.matrix.specs.Symmetric.{sym2, sym3};
+ghost use Rattle.matrix.specs.Arithmetic.{scaledOf, scaledFromOf};
 
 pub struct Sym2 {
     pub data: [Real; 3],

@@ -12,7 +12,7 @@ use Rattle.float.specs.Choice.{pick}
 use Rattle.float.specs.Sign.{allFinite}
 use Rattle.float.proofs.Choice.{by-eqb}
 use Rattle.float.proofs.Finite.{both-true, append-passes}
-use Rattle.matrix.specs.Answer.{zeros}
+use Rattle.matrix.specs.Places.{zeros}
 use Rattle.cholesky.specs.Pivots.{oneAtMostZero}
 use Rattle.cholesky.proofs.Codes.{factor2-code, factor3-code, solved2-code, solved3-code}
 use Rattle.eigen.proofs.Owed.{eigen2-code, eigen3-code}

@@ -8,7 +8,7 @@ use lib.Ieee.{Float, Format}
 use Rattle.float.specs.Choice.{pick}
 use Rattle.float.specs.Sign.{allFinite}
 use Rattle.float.proofs.Choice.{by-test, by-eqb}
-use Rattle.matrix.specs.Answer.{zeros}
+use Rattle.matrix.specs.Places.{zeros}
 use Rattle.cholesky.specs.Factor.{FactorAnswer}
 use Rattle.cholesky.specs.Pivots.{oneAtMostZero, refusedPivot}
 use Rattle.cholesky.proofs.Codes.{factor2-pivot, factor3-pivot, solved2-pivot, solved3-pivot}

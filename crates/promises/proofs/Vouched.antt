@@ -12,8 +12,7 @@ use Rattle.float.specs.Constants.{zeroF}
 use Rattle.float.specs.Sign.{finite, allFinite}
 use Rattle.float.proofs.Choice.{chosen, by-eqb, by-ltb}
 use Rattle.float.proofs.Finite.{at-finite, zero-finite}
-use Rattle.matrix.specs.Answer.{zeros}
-use Rattle.matrix.specs.Places.{at}
+use Rattle.matrix.specs.Places.{zeros, at}
 use Rattle.matrix.proofs.Owed.{by-owed}
 use Rattle.matrix.proofs.Tables.{table-finite, zeros-finite}
 use Rattle.cholesky.specs.Factor.{FactorAnswer}

@@ -9,7 +9,7 @@ use lib.Ieee.{Float, Format}
 use Rattle.float.specs.Choice.{pick}
 use Rattle.float.specs.Exactly.{Exactly}
 use Rattle.float.specs.Sign.{allFinite}
-use Rattle.matrix.specs.Answer.{zeros}
+use Rattle.matrix.specs.Places.{zeros}
 use Rattle.cholesky.specs.Factor.{steps2Of, steps3Of}
 use Rattle.cholesky.specs.Pivots.{pivots2Of, pivots3Of, oneAtMostZero, refusedPivot}
 use Rattle.cholesky.specs.Solve.{solution2Of, solution3Of}

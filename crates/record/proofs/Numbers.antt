@@ -11,7 +11,7 @@ use lib.Seq.{take-suc}
 use lib.Ieee.{Float, nan, Format, binary32, binary64, fits, isNan, top, ofBits, toBits}
 use lib.Ieee.Bits.{ofBits-toBits, toBits-lt, toBits-ofBits}
 use Rattle.float.specs.Constants.{zeroF}
-use Rattle.matrix.specs.Answer.{zeros}
+use Rattle.matrix.specs.Places.{zeros}
 use Rattle.record.specs.Layout.{numberBytes, placeOf}
 use Rattle.record.specs.Bytes.{wordOf, bytesOf, numberBytesOf}
 use Rattle.record.proofs.Words.{bytes-length, word-of-bytes, word-below, bytes-of-word}

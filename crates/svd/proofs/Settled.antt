@@ -15,7 +15,7 @@ use Rattle.float.proofs.Finite.{at-finite, parts-finite, magnitude-finite}
 use Rattle.float.proofs.Under.{add-no-nan, limit-finite}
 use Rattle.matrix.specs.Places.{at}
 use Rattle.matrix.specs.declared.square.Mat3.{Mat3}
-use Rattle.jacobi.specs.Pairs.{sizeAt}
+use Rattle.jacobi.specs.Largest.{sizeAt}
 use Rattle.jacobi.specs.declared.pairs.Pair.{Pair}
 use Rattle.jacobi.specs.declared.pairs.Pair.the-variants.{P12, P13, P23}
 use Rattle.jacobi.proofs.Largest.{all-under}

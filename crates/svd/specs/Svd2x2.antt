@@ -4,8 +4,7 @@ use mathlib.Core.List.{List, [], _∷_, _++_}
 use Prim.Native.Nat.{ℕ}
 use lib.Ieee.{Float, Format, neg}
 use Rattle.float.specs.Judged.{judgedCall}
-use Rattle.matrix.specs.Answer.{zeros}
-use Rattle.matrix.specs.Places.{at}
+use Rattle.matrix.specs.Places.{zeros, at}
 use Rattle.matrix.specs.Square.{mat2}
 use Rattle.svd.specs.Polar.{twoSidedOf}
 use Rattle.svd.specs.Order.{Factors, order2Of}

@@ -5,7 +5,7 @@ use Prim.Native.Nat.{ℕ}
 use lib.Ieee.{Float, Format, lt}
 use Rattle.float.specs.Constants.{limitF}
 use Rattle.float.specs.Judged.{judgedCall}
-use Rattle.matrix.specs.Answer.{zeros}
+use Rattle.matrix.specs.Places.{zeros}
 use Rattle.matrix.specs.Square.{mat3, identityOf}
 use Rattle.jacobi.specs.Pairs.{turnedOf}
 use Rattle.jacobi.specs.Run.{run, nothingMade, oneMore}

@@ -2,7 +2,7 @@
 use mathlib.Core.Path.{sym, _∙_}
 use Rattle.float.specs.Width.{F}
 use Rattle.float.proofs.Judged.{stands, refuses}
-use Rattle.eigen.specs.Eigen3x3.{refusedValues, bareEndOf, eigvalsOf}
+use Rattle.eigen.specs.EigVals.{refusedValues, bareEndOf, eigvalsOf}
 use borrow.Author.Needs.{needs}
 use Rattle.eigen.proofs.eigen3x3.eigvals_jacobi.Statement.{statement}
 use Rattle.eigen.proofs.eigen3x3.eigvals_jacobi.Tie as tie

@@ -2,7 +2,7 @@
 use mathlib.Core.Path.{sym, _∙_}
 use Rattle.float.specs.Width.{F}
 use Rattle.float.proofs.Judged.{stands, refuses}
-use Rattle.eigen.specs.Eigen3x3.{ofBare, refusedValues, valuesOf}
+use Rattle.eigen.specs.EigVals.{ofBare, refusedValues, valuesOf}
 use borrow.Author.Needs.{needs}
 use Rattle.eigen.proofs.eigen3x3.judge_values.Statement.{statement}
 use Rattle.eigen.proofs.eigen3x3.judge_values.Tie as tie

@@ -7,7 +7,8 @@ use Rattle.float.specs.Width.{F}
 use Rattle.matrix.specs.declared.symmetric.Sym3.{Sym3}
 use Rattle.jacobi.specs.declared.made.Made.{Made}
 use Rattle.jacobi.proofs.Run.{leaves, goes-once, used-up}
-use Rattle.eigen.specs.Eigen3x3.{BareState, bare, settledOf, bareStepOf, bareRunOf, bareLastOf}
+use Rattle.eigen.specs.Eigen3x3.{settledOf}
+use Rattle.eigen.specs.EigVals.{BareState, bare, bareStepOf, bareRunOf, bareLastOf}
 use Rattle.eigen.proofs.Rounds.{tested, next-bare}
 use borrow.Author.Needs.{needs}
 use Rattle.eigen.proofs.eigen3x3.work_values.Statement.{statement}

@@ -1,7 +1,7 @@
 -- Where all numbers are finite the form is judged, and else refused.
 use borrow.Author.Needs.{needs}
 use Rattle.float.proofs.Judged.{stands, refuses}
-use Rattle.matrix.specs.Symmetric.{quadJudgedOf}
+use Rattle.matrix.specs.Arithmetic.{quadJudgedOf}
 use Rattle.matrix.proofs.core.quad_judged.Statement.{statement}
 use Rattle.matrix.proofs.core.quad_judged.Tie as tie
 

@@ -4,7 +4,7 @@ use Prim.Native.Nat.{_≤_}
 use native.Mathlib.Omega.{arith}
 use borrow.Author.Needs.{needs}
 use borrow.Author.Tests.{le-ltb}
-use Rattle.matrix.specs.Square.{flipColumnOf}
+use Rattle.matrix.specs.Indexed.{flipColumnOf}
 use Rattle.matrix.specs.declared.square.Mat2.{Mat2}
 use Rattle.matrix.proofs.square.Mat2.flip_column.Statement.{statement}
 use Rattle.matrix.proofs.square.Mat2.flip_column.Tie as tie

@@ -1,7 +1,7 @@
 -- Where all numbers are finite the product is judged, and else refused.
 use borrow.Author.Needs.{needs}
 use Rattle.float.proofs.Judged.{stands, refuses}
-use Rattle.matrix.specs.Square.{productOf}
+use Rattle.matrix.specs.Arithmetic.{productOf}
 use Rattle.matrix.proofs.square.Mat2.product.Statement.{statement}
 use Rattle.matrix.proofs.square.Mat2.product.Tie as tie
 

@@ -1,7 +1,7 @@
 -- Columns are answered by the tests of a place.
 use mathlib.Core.Path.{ap, _∙_}
 use borrow.Author.Needs.{needs}
-use Rattle.matrix.specs.Square.{mat2Answer}
+use Rattle.matrix.specs.Indexed.{mat2Answer}
 use Rattle.matrix.specs.declared.square.Mat2.{Mat2}
 use Rattle.matrix.proofs.Answered.{within, row-outside, column-outside}
 use Rattle.matrix.proofs.square.Mat2.swap_columns.Statement.{statement}

@@ -4,7 +4,7 @@ use Prim.Native.Nat.{_≤_}
 use native.Mathlib.Omega.{arith}
 use borrow.Author.Needs.{needs}
 use borrow.Author.Tests.{le-ltb}
-use Rattle.matrix.specs.Square.{flipColumnOf}
+use Rattle.matrix.specs.Indexed.{flipColumnOf}
 use Rattle.matrix.specs.declared.square.Mat3.{Mat3}
 use Rattle.matrix.proofs.square.Mat3.flip_column.Statement.{statement}
 use Rattle.matrix.proofs.square.Mat3.flip_column.Tie as tie

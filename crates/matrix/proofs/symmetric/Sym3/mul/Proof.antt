@@ -2,7 +2,7 @@
 use mathlib.Core.Path.{refl}
 use borrow.Author.Needs.{needs}
 use borrow.Author.Tests.{le-leb, lt-leb}
-use Rattle.matrix.specs.Symmetric.{symMulOf}
+use Rattle.matrix.specs.Arithmetic.{symMulOf}
 use Rattle.matrix.proofs.Tables.{tabulate-take}
 use Rattle.matrix.proofs.symmetric.Sym3.mul.Statement.{statement}
 use Rattle.matrix.proofs.symmetric.Sym3.mul.Tie as tie

@@ -1,7 +1,7 @@
 -- Where all numbers are finite the norm is judged, and else refused.
 use borrow.Author.Needs.{needs}
 use Rattle.float.proofs.Judged.{stands, refuses}
-use Rattle.matrix.specs.Symmetric.{normFroOf}
+use Rattle.matrix.specs.Arithmetic.{normFroOf}
 use Rattle.matrix.proofs.symmetric.Sym3.norm_fro.Statement.{statement}
 use Rattle.matrix.proofs.symmetric.Sym3.norm_fro.Tie as tie
 

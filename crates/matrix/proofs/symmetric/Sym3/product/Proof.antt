@@ -1,7 +1,7 @@
 -- Where all numbers are finite the product is judged, and else refused.
 use borrow.Author.Needs.{needs}
 use Rattle.float.proofs.Judged.{stands, refuses}
-use Rattle.matrix.specs.Symmetric.{symProductOf}
+use Rattle.matrix.specs.Arithmetic.{symProductOf}
 use Rattle.matrix.proofs.symmetric.Sym3.product.Statement.{statement}
 use Rattle.matrix.proofs.symmetric.Sym3.product.Tie as tie
 

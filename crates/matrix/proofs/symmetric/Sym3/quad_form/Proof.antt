@@ -1,7 +1,7 @@
 -- Both lengths passed, the numbers read one by one are the first three of each slice.
 use borrow.Author.Needs.{needs}
 use borrow.Author.Tests.{le-leb, lt-leb}
-use Rattle.matrix.specs.Symmetric.{quadFormOf}
+use Rattle.matrix.specs.Arithmetic.{quadFormOf}
 use Rattle.matrix.proofs.Tables.{tabulate-take}
 use Rattle.matrix.proofs.symmetric.Sym3.quad_form.Statement.{statement}
 use Rattle.matrix.proofs.symmetric.Sym3.quad_form.Tie as tie

@@ -1,7 +1,7 @@
 -- Where all numbers are finite the scaled ones are judged, and else refused.
 use borrow.Author.Needs.{needs}
 use Rattle.float.proofs.Judged.{stands, refuses}
-use Rattle.matrix.specs.Symmetric.{scaledFromOf}
+use Rattle.matrix.specs.Arithmetic.{scaledFromOf}
 use Rattle.matrix.proofs.symmetric.Sym3.scaled_from.Statement.{statement}
 use Rattle.matrix.proofs.symmetric.Sym3.scaled_from.Tie as tie
 
