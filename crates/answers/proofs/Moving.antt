@@ -1,11 +1,6 @@
 -- Bytes moved to the front of their own list, one by one from the first: what is not moved yet stays.
-use mathlib.Core.Path.{_≡_, sym, ap, _∙_}
-use mathlib.Core.List.{List, [], _∷_, _++_}
-use Prim.Native.Nat.{ℕ, _+_, _<_}
-use native.Mathlib.Omega.{arith}
-use native.Mathlib.Numerals.{add-one}
-use lib.ListN.{length, getD, take, drop, set, length-drop}
-use lib.Seq.{take-suc, take-suc-set, getD-drop, drop-drop, drop-set-lt}
+use Rattle.float.proofs.Words.{_≡_, sym, ap, _∙_, List, [], _∷_, _++_, ℕ, _+_, _<_, arith, add-one, length, getD, take, drop, set, length-drop, take-suc}
+use Rattle.float.proofs.Words.{take-suc-set, getD-drop, drop-drop, drop-set-lt}
 
 module _ (b start : List ℕ) (i : ℕ) (kept : drop i b ≡ drop i start) where
   -- the byte at `from + i` is the one of the beginning

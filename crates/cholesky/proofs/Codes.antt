@@ -1,11 +1,5 @@
 -- The code and the pivot of a judged call over steps are told by its numbers: 5 is tested before the steps, and 7 only where they are whole.
-use mathlib.Core.Path.{_≡_, refl, sym, ap, _∙_}
-use mathlib.Core.Bool.{Bool, true, false}
-use mathlib.Core.List.{List, [], _++_}
-use Prim.Native.Nat.{ℕ}
-use native.Mathlib.Omega.{arith}
-use lib.Dec.{eqb}
-use lib.Ieee.{Float, Format}
+use Rattle.float.proofs.Words.{_≡_, refl, sym, ap, _∙_, Bool, true, false, List, [], _++_, ℕ, arith, eqb, Float, Format}
 use Rattle.float.specs.Choice.{pick}
 use Rattle.float.specs.Sign.{allFinite}
 use Rattle.float.specs.Judged.{judgedCall}

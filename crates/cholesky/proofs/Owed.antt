@@ -1,13 +1,5 @@
 -- The kernels owe what every kernel does: the exact code tells which codes there are, and each way ends in the answer, a refusal or stopped steps.
-use mathlib.Core.Path.{_≡_, refl, sym, _∙_}
-use mathlib.Core.Bool.{Bool, true, false, true≢false}
-use mathlib.Core.List.{List, _++_}
-use mathlib.Core.Logic.{_⊎_, inl, inr}
-use Prim.Native.Nat.{ℕ}
-use native.Mathlib.Omega.{arith}
-use borrow.Author.Tests.{eq-eqb}
-use lib.ListN.{length}
-use lib.Ieee.{Float, Format}
+use Rattle.float.proofs.Words.{_≡_, refl, sym, _∙_, Bool, true, false, true≢false, List, _++_, _⊎_, inl, inr, ℕ, arith, length, Float, Format, eq-eqb}
 use Rattle.float.specs.Choice.{pick}
 use Rattle.float.specs.Exactly.{Exactly}
 use Rattle.float.specs.Judged.{judgedCall}

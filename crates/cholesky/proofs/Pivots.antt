@@ -1,9 +1,5 @@
 -- What a factor makes of a pivot step: with a root it goes on, and in any other case it stops with the early writes.
-use mathlib.Core.Path.{_≡_, sym, ap, _∙_}
-use mathlib.Core.List.{List}
-use Prim.Native.Nat.{ℕ}
-use native.Mathlib.Omega.{arith}
-use lib.Ieee.{Float, Format}
+use Rattle.float.proofs.Words.{_≡_, sym, ap, _∙_, List, ℕ, arith, Float, Format}
 use Rattle.cholesky.specs.Pivot.{PivotAnswer, pivotAnswer}
 use Rattle.cholesky.specs.Factor.{FactorAnswer, stopped, withRoot}
 use Rattle.cholesky.specs.declared.pivot.Pivot.{Pivot}

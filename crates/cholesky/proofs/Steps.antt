@@ -1,8 +1,5 @@
 -- The factors pivot by pivot: what a pivot step answers decides between the early writes and the rest of the factor.
-use mathlib.Core.Path.{_≡_}
-use mathlib.Core.List.{List, [], _∷_}
-use Prim.Native.Nat.{ℕ}
-use lib.Ieee.{Float, Format, sub, mul, div}
+use Rattle.float.proofs.Words.{_≡_, List, [], _∷_, ℕ, Float, Format, sub, mul, div}
 use Rattle.matrix.specs.Places.{at}
 use Rattle.cholesky.specs.Pivot.{pivotAnswer, pivotOf}
 use Rattle.cholesky.specs.Factor.{stopped, plain, second2Of, steps2Of, third3Of, rowThreeOf, second3Of, steps3Of}

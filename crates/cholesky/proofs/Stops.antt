@@ -1,10 +1,5 @@
 -- Steps stop at the first pivot that is at most zero: a pivot step stops them by its own pivot, and by those after it what follows.
-use mathlib.Core.Path.{_≡_, refl}
-use mathlib.Core.Bool.{Bool, true, false, _||_}
-use mathlib.Core.List.{List, [], _∷_}
-use Prim.Native.Nat.{ℕ, suc}
-use lib.ListN.{length}
-use lib.Ieee.{Float, Format, sub, mul, div, le}
+use Rattle.float.proofs.Words.{_≡_, refl, Bool, true, false, _||_, List, [], _∷_, ℕ, suc, length, Float, Format, sub, mul, div, le}
 use Rattle.float.specs.Choice.{pick}
 use Rattle.float.specs.Constants.{zeroF}
 use Rattle.float.specs.Root.{rootOf}

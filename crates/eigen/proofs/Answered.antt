@@ -1,7 +1,5 @@
 -- An answer with code 0 is that of the last state, or of the two axes, of finite numbers: a judged call leaves another code on every other way.
-use mathlib.Core.Path.{_≡_, refl}
-use mathlib.Core.List.{List}
-use lib.Ieee.{Float, Format}
+use Rattle.float.proofs.Words.{_≡_, refl, List, Float, Format}
 use Rattle.float.proofs.Judged.{Accepted, accepted}
 use Rattle.eigen.specs.Eigen3x3.{lastOf, refusedEigen, numbersOf, answerOf, endOf, eigenOf}
 use Rattle.eigen.specs.EigVals.{bareLastOf, refusedValues, valuesOf, bareEndOf, eigvalsOf, refusedValues2, values2Of, valuesEnd2Of, eigvals2Of}

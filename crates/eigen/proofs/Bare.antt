@@ -1,10 +1,5 @@
 -- Without vectors the same is worked out: neither a state's matrix nor what the run made looks at the vectors, nor does the order of the values.
-use mathlib.Core.Path.{_≡_, refl, sym, ap, _∙_}
-use mathlib.Core.Bool.{Bool, true, false}
-use mathlib.Core.Logic.{_⊎_, inl, inr, ⊎-elim}
-use mathlib.Core.List.{List}
-use Prim.Native.Nat.{ℕ}
-use lib.Ieee.{Float, Format}
+use Rattle.float.proofs.Words.{_≡_, refl, sym, ap, _∙_, Bool, true, false, List, _⊎_, inl, inr, ⊎-elim, ℕ, Float, Format}
 use Rattle.float.specs.Width.{F}
 use Rattle.float.specs.Sign.{allFinite}
 use Rattle.float.specs.Judged.{judged, judgedCall}

@@ -1,11 +1,5 @@
 -- Every list of an answer has its numbers: a rotation makes six and nine, an order moves them; and three values of a finite diagonal are finite in any order.
-use mathlib.Core.Path.{_≡_, refl, sym, ap, _∙_}
-use mathlib.Core.Bool.{Bool, true}
-use mathlib.Core.List.{List}
-use Prim.Native.Nat.{ℕ, _*_, _<_}
-use native.Mathlib.Omega.{arith}
-use lib.ListN.{length}
-use lib.Ieee.{Float, Format}
+use Rattle.float.proofs.Words.{_≡_, refl, sym, ap, _∙_, Bool, true, List, ℕ, _*_, _<_, arith, length, Float, Format}
 use Rattle.float.specs.Sign.{finite, allFinite}
 use Rattle.float.proofs.Finite.{at-finite}
 use Rattle.matrix.specs.Places.{at}

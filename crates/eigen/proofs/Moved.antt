@@ -1,7 +1,5 @@
 -- The values of an answer and its vectors are those worked out, moved by one permutation, whatever the comparisons choose: each exchange moves both.
-use mathlib.Core.List.{List}
-use native.Mathlib.Omega.{arith}
-use lib.Ieee.{Float, Format}
+use Rattle.float.proofs.Words.{List, arith, Float, Format}
 use Rattle.jacobi.specs.Order.{Ranked}
 use Rattle.jacobi.specs.Moved.{Permutation, Moved, ColumnsFollow}
 use Rattle.jacobi.proofs.Moves.{columns-carried, nothing-said, ordered-moves, ordered3-moves}

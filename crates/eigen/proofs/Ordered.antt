@@ -1,11 +1,5 @@
 -- The values of an answer with code 0 are finite and put in order, so they ascend; two of them also where a tie changes their places.
-use mathlib.Core.Path.{_≡_, sym, ap, _∙_}
-use mathlib.Core.Bool.{true}
-use mathlib.Core.List.{List}
-use Prim.Native.Nat.{ℕ, _<_}
-use native.Mathlib.Omega.{arith}
-use lib.ListN.{length}
-use lib.Ieee.{Float, Format}
+use Rattle.float.proofs.Words.{_≡_, sym, ap, _∙_, true, List, ℕ, _<_, arith, length, Float, Format}
 use Rattle.float.specs.Width.{F}
 use Rattle.float.specs.Sign.{finite, allFinite}
 use Rattle.float.proofs.Finite.{at-finite, parts-finite}

@@ -1,10 +1,7 @@
 -- What the four calls owe: each is a judged call, so its code is exactly that of its tests; and its lists are full, of numbers that the tests or their places
 -- in a
 -- tested matrix say to be finite.
-use mathlib.Core.Path.{_≡_, refl}
-use mathlib.Core.List.{List}
-use lib.ListN.{length}
-use lib.Ieee.{Float, Format}
+use Rattle.float.proofs.Words.{_≡_, refl, List, length, Float, Format}
 use Rattle.float.specs.Choice.{pick}
 use Rattle.float.specs.Sign.{allFinite}
 use Rattle.float.proofs.Finite.{parts-finite}

@@ -1,8 +1,5 @@
 -- One round of the 3x3 loops makes the definition's test and step, since each of its calls answers by the definition's names.
-use mathlib.Core.Path.{_≡_, ap, _∙_}
-use mathlib.Core.Bool.{Bool}
-use mathlib.Core.List.{List}
-use lib.Ieee.{Float, Format, lt}
+use Rattle.float.proofs.Words.{_≡_, ap, _∙_, Bool, List, Float, Format, lt}
 use Rattle.float.specs.Constants.{limitF}
 use Rattle.matrix.specs.declared.square.Mat3.{Mat3}
 use Rattle.matrix.specs.Square.{mat3}

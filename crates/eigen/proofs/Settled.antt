@@ -1,10 +1,5 @@
 -- Settled means that all three numbers beside the diagonal are under the limit: the test reads the largest of them.
-use mathlib.Core.Path.{_≡_, refl, sym, ap, _∙_}
-use mathlib.Core.Bool.{true, false}
-use mathlib.Core.List.{List}
-use native.Mathlib.Omega.{arith}
-use lib.ListN.{length}
-use lib.Ieee.{Float, Format, lt, isNan}
+use Rattle.float.proofs.Words.{_≡_, refl, sym, ap, _∙_, true, false, List, arith, length, Float, Format, lt, isNan}
 use Rattle.float.specs.Width.{F}
 use Rattle.float.specs.Constants.{limitF}
 use Rattle.float.specs.Exactly.{Exactly}

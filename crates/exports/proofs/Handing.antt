@@ -1,8 +1,5 @@
 -- What is read of a struct is what it was made of.
-use mathlib.Core.Path.{_≡_, ap, _∙_}
-use mathlib.Core.List.{List}
-use Prim.Native.Nat.{ℕ}
-use lib.Ieee.{Float}
+use Rattle.float.proofs.Words.{_≡_, ap, _∙_, List, ℕ, Float}
 
 pub handed : {S : Type 0} (code : S → ℕ) (numbers : S → List Float) {r s : S} {out : List Float} → out ≡ numbers r → r ≡ s
     → (code r ≡ code s) × (out ≡ numbers s)

@@ -1,7 +1,5 @@
 -- Any two answers within the promise of a C entry are equal, and so is what they leave in a lent slice.
-use mathlib.Core.Path.{sym, _∙_}
-use Prim.Native.Nat.{ℕ}
-use lib.Ieee.{Float}
+use Rattle.float.proofs.Words.{sym, _∙_, ℕ, Float}
 use contract.Lifetimes.{Lfts}
 use Rattle.float.specs.OneAnswer.{OneAnswer, OneOutcome}
 use Rattle.float.proofs.OneAnswer.{named, both-named}

@@ -1,12 +1,7 @@
 -- A branch on the finite test is one way through `judged`, and what holds of both ways holds of it: `judged` is a choice by that test. A call has three ways,
 -- and
 -- only the one on which nothing is refused leaves code 0.
-use mathlib.Core.Path.{_≡_, refl, sym, _∙_}
-use mathlib.Core.Bool.{Bool, true, false}
-use mathlib.Core.List.{List, []}
-use Prim.Native.Nat.{ℕ}
-use native.Mathlib.Omega.{arith}
-use lib.Ieee.{Float}
+use Rattle.float.proofs.Words.{_≡_, refl, sym, _∙_, Bool, true, false, List, [], ℕ, arith, Float}
 use Rattle.float.specs.Sign.{allFinite}
 use Rattle.float.specs.Judged.{judged, judgedCall}
 use Rattle.float.proofs.Choice.{by-test}

@@ -1,3 +1,4 @@
+pub mod Words
 pub mod OneAnswer
 pub mod Branches
 pub mod Choice

@@ -1,10 +1,7 @@
 -- What is below a number, or not above it, is under each finite l that the number is under: infinities by cases, and finite floats compare as their keys do.
-use mathlib.Core.Path.{_≡_, refl, sym, _∙_}
-use mathlib.Core.Bool.{Bool, true, false, not, _&&_, Bool·beq, cond, true≢false, false≢true}
-use Prim.Native.Nat.{ℕ, zero, suc, _+_, _-_, _*_, _^_}
-use native.Mathlib.Omega.{arith}
-use lib.Dec.{ltb}
-use lib.Ieee.{Float, nan, inf, fin, Format, binary32, binary64, ofBits, prec, emax, low, lt, sum, add, round, units, odd, isNan}
+use Rattle.float.proofs.Words.{_≡_, refl, sym, _∙_, Bool, true, false, not, _&&_, Bool·beq, cond, true≢false, false≢true, ℕ, zero, suc, _+_, _-_, _*_}
+use Rattle.float.proofs.Words.{_^_, arith, ltb, Float, nan, inf, fin, Format, binary32, binary64, ofBits, prec, emax, low, lt, sum, add, round, units}
+use Rattle.float.proofs.Words.{odd, isNan}
 use Rattle.float.specs.Constants.{limitF}
 use Rattle.float.specs.Sign.{finite}
 use Rattle.float.proofs.Finite.{both-true}

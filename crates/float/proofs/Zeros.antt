@@ -1,14 +1,9 @@
 -- Zero and epsilon among the finite numbers: what is equal to zero is a zero of either sign, a number without a sign is at least zero,
 -- and epsilon times a number that is no less than epsilon does not vanish, since its square does not.
-use mathlib.Core.Path.{_≡_, refl, sym, _∙_, subst}
-use mathlib.Core.Bool.{Bool, true, false, _||_, Bool·beq, true≢false, false≢true}
-use Prim.Native.Nat.{ℕ, zero, suc, _*_, _≤_, _<_}
-use native.Mathlib.Nat.{zero-mul, mul-pos, zero-lt-suc, le-refl, lt-irrefl, lt-of-lt-of-le}
-use native.Mathlib.Omega.{arith}
-use borrow.Author.Tests.{ltb-false, lt-ltb}
-use lib.Dec.{T, ltb, eqb, eqb→eq, ltb→lt, lt→ltb, lit<}
-use lib.IntN.{ℤ, pos, negsuc}
-use lib.Ieee.{Float, nan, inf, fin, Format, binary32, binary64, up, down, mul, lt, eq, le, level, ofBits}
+use Rattle.float.proofs.Words.{_≡_, refl, sym, _∙_, subst, Bool, true, false, _||_, Bool·beq, true≢false, false≢true, ℕ, zero, suc, _*_, _≤_, _<_}
+use Rattle.float.proofs.Words.{zero-mul, mul-pos, zero-lt-suc, le-refl, lt-irrefl, lt-of-lt-of-le, arith, T, ltb, eqb, eqb→eq, ltb→lt, lt→ltb, lit<, ℤ}
+use Rattle.float.proofs.Words.{pos, negsuc, Float, nan, inf, fin, Format, binary32, binary64, up, down, mul, lt, eq, le, level, ofBits, ltb-false}
+use Rattle.float.proofs.Words.{lt-ltb}
 use lib.Ieee.Fits.{up-pos, down-pos, and-l}
 use lib.Ieee.Positive.{positive, above, above-of-le, mul-mono, cross→le, first-pos}
 use Rattle.float.specs.Constants.{zeroF, epsilonF}

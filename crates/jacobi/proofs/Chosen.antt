@@ -1,7 +1,5 @@
 -- Which rotation is chosen: each outcome of the three tests leaves one way through the choice.
-use mathlib.Core.Path.{_≡_}
-use mathlib.Core.Bool.{true, false}
-use lib.Ieee.{Float, Format}
+use Rattle.float.proofs.Words.{_≡_, true, false, Float, Format}
 use Rattle.jacobi.specs.Rotation.{isGone, tinyDiagonal, levelDiagonal, thetaOf, tangentOf, noTurn, evenTurn, turnBy, rotationOf}
 
 module _ (f : Format) (apq app aqq : Float) where

@@ -1,9 +1,5 @@
 -- Of three finite numbers `largestOf` takes the largest, and the first of equals: finite floats compare as their keys do, which are natural numbers.
-use mathlib.Core.Path.{_≡_, refl}
-use mathlib.Core.Bool.{Bool, true, false}
-use Prim.Native.Nat.{ℕ, _≤_, _<_}
-use native.Mathlib.Omega.{arith}
-use lib.Ieee.{Float, lt, isNan}
+use Rattle.float.proofs.Words.{_≡_, refl, Bool, true, false, ℕ, _≤_, _<_, arith, Float, lt, isNan}
 use Rattle.float.specs.Choice.{pick}
 use Rattle.float.specs.Exactly.{Exactly}
 use Rattle.float.specs.Sign.{finite}

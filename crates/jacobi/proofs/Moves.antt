@@ -1,12 +1,6 @@
 -- Putting values in order only moves them: an exchange of two places is undone by itself, what is carried makes the same exchange, and what two moves do is
 -- again one.
-use mathlib.Core.Path.{_≡_, refl, ap, _∙_, subst, subst⁻¹}
-use mathlib.Core.Bool.{Bool, true}
-use mathlib.Core.List.{List}
-use Prim.Native.Nat.{ℕ, _*_, _<_}
-use native.Mathlib.Omega.{arith}
-use lib.ListN.{length}
-use lib.Ieee.{Float}
+use Rattle.float.proofs.Words.{_≡_, refl, ap, _∙_, subst, subst⁻¹, Bool, true, List, ℕ, _*_, _<_, arith, length, Float}
 use Rattle.float.specs.Sign.{finite, allFinite}
 use Rattle.float.proofs.Choice.{chosen}
 use Rattle.float.proofs.Finite.{finite-together}

@@ -2,11 +2,8 @@
 -- two numbers that both change sign. The one thing that could tell the two apart is the sign of a zero. It never reaches theta: where the diagonal's difference
 -- is zero
 -- the 45 degree rotation is taken, since epsilon times the larger diagonal number, itself no less than epsilon, does not vanish.
-use mathlib.Core.Path.{_≡_, refl, sym, ap, _∙_}
-use mathlib.Core.Bool.{Bool, true, false, not, Bool·beq, cond, false≢true}
-use Prim.Native.Nat.{ℕ}
-use lib.IntN.{ℤ}
-use lib.Ieee.{Float, nan, inf, fin, Format, neg, add, sub, mul, lt, eq}
+use Rattle.float.proofs.Words.{_≡_, refl, sym, ap, _∙_, Bool, true, false, not, Bool·beq, cond, false≢true, ℕ, ℤ, Float, nan, inf, fin, Format, neg, add, sub}
+use Rattle.float.proofs.Words.{mul, lt, eq}
 use Rattle.float.specs.Choice.{pick}
 use Rattle.float.specs.Constants.{zeroF, twoF, epsilonF}
 use Rattle.float.specs.Sign.{magnitudeOf, finite}

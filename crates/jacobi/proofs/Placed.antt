@@ -1,11 +1,6 @@
 -- Where the test of the wrong order goes by a rank, an exchange of two places leaves the lower rank at the first and the higher at the second; so three
 -- exchanges leave the least, the middle and the greatest of three ranks. No value depends on what is carried, since the tests read values alone.
-use mathlib.Core.Path.{_≡_, refl, sym, ap, _∙_}
-use mathlib.Core.Bool.{Bool, true, false}
-use mathlib.Core.List.{List}
-use Prim.Native.Nat.{ℕ, _≤_, _<_, min, max}
-use native.Mathlib.Omega.{arith}
-use lib.Ieee.{Float}
+use Rattle.float.proofs.Words.{_≡_, refl, sym, ap, _∙_, Bool, true, false, List, ℕ, _≤_, _<_, min, max, arith, Float}
 use Rattle.float.specs.Choice.{pick}
 use Rattle.float.proofs.Choice.{chosen, by-test}
 use Rattle.matrix.specs.Places.{at, tabulate}

@@ -1,9 +1,5 @@
 -- The laws of `run`, for any step and any test: each follows the rounds one by one.
-use mathlib.Core.Path.{_≡_, refl, sym, ap, _∙_, subst⁻¹}
-use mathlib.Core.Bool.{Bool, true, false}
-use mathlib.Core.Logic.{_⊎_, inl, inr}
-use Prim.Native.Nat.{ℕ, zero, suc, _+_, _-_, _≤_, _<_}
-use native.Mathlib.Omega.{arith}
+use Rattle.float.proofs.Words.{_≡_, refl, sym, ap, _∙_, subst⁻¹, Bool, true, false, _⊎_, inl, inr, ℕ, zero, suc, _+_, _-_, _≤_, _<_, arith}
 use Rattle.jacobi.specs.Run.{runFrom, run, after, Ran}
 
 module _ {S : Type 0} (step : S → S) (done : S → Bool) where

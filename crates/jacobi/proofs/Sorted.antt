@@ -1,12 +1,6 @@
 -- Finite values put in order are in order, in either direction: upward a value ranks by its key, a natural number, and downward by the key of its negation; and
 -- the least of two or three ranks comes first.
-use mathlib.Core.Path.{_≡_}
-use mathlib.Core.Bool.{Bool, true, not}
-use mathlib.Core.List.{List}
-use Prim.Native.Nat.{ℕ, zero, suc, _+_, _≤_, _<_}
-use native.Mathlib.Omega.{arith}
-use borrow.Author.Tests.{not-true, not-false}
-use lib.Ieee.{Float, neg, lt, le}
+use Rattle.float.proofs.Words.{_≡_, Bool, true, not, List, ℕ, zero, suc, _+_, _≤_, _<_, arith, Float, neg, lt, le, not-true, not-false}
 use Rattle.float.specs.Sign.{finite}
 use Rattle.float.proofs.Keys.{key, Within, le-key, key-below, key-not-below, key-rel, keyed}
 use Rattle.float.proofs.Negation.{negation}

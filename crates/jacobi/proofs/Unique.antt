@@ -1,5 +1,5 @@
 -- Any two answers within the promise of a public function are equal. Each promise is read from the source, as a caller reads it.
-use lib.Ieee.{Float}
+use Rattle.float.proofs.Words.{Float}
 use Rattle.float.specs.OneAnswer.{OneAnswer}
 use Rattle.float.proofs.OneAnswer.{named}
 use Rattle.matrix.specs.declared.square.Mat3.{Mat3}

@@ -1,7 +1,5 @@
 -- No kind uses more than nine numbers of the nine, nor more than three of the three.
-use Prim.Native.Nat.{ℕ, _≤_}
-use native.Mathlib.Omega.{arith}
-use lib.Dec.{eqb}
+use Rattle.float.proofs.Words.{ℕ, _≤_, arith, eqb}
 use Rattle.float.proofs.Choice.{chosen}
 use Rattle.kinds.specs.Slots.{nineUsed, threeUsed}
 

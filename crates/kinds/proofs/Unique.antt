@@ -1,8 +1,5 @@
 -- Any two answers within the promise of a public function are equal.
-use mathlib.Core.Bool.{Bool}
-use mathlib.Core.List.{List}
-use Prim.Native.Nat.{ℕ}
-use lib.Ieee.{Float}
+use Rattle.float.proofs.Words.{Bool, List, ℕ, Float}
 use Rattle.float.specs.OneAnswer.{OneAnswer}
 use Rattle.float.proofs.OneAnswer.{named}
 use Rattle.kinds.specs.declared.work.Worked.{Worked}

@@ -1,8 +1,5 @@
 -- What a checked rotation keeps, whatever the rotation: each side of each test keeps it.
-use mathlib.Core.Path.{_≡_, refl}
-use mathlib.Core.Bool.{true}
-use mathlib.Core.List.{List, [], _∷_}
-use lib.Ieee.{Float, Format}
+use Rattle.float.proofs.Words.{_≡_, refl, true, List, [], _∷_, Float, Format}
 use Rattle.float.specs.Sign.{allFinite}
 use Rattle.float.proofs.Choice.{chosen, by-test}
 use Rattle.matrix.specs.Answer.{Answer}

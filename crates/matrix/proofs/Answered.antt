@@ -1,10 +1,5 @@
 -- A place is answered exactly where its row and its column are below the size; what is read or written there goes by the same two tests.
-use mathlib.Core.Path.{_≡_, refl, sym, ap, _∙_, subst⁻¹}
-use mathlib.Core.Bool.{Bool, true, false}
-use Prim.Native.Nat.{ℕ, _*_, _≤_, _<_}
-use native.Mathlib.Omega.{arith}
-use borrow.Author.Tests.{ltb-true, lt-ltb, le-ltb}
-use lib.Dec.{ltb}
+use Rattle.float.proofs.Words.{_≡_, refl, sym, ap, _∙_, subst⁻¹, Bool, true, false, ℕ, _*_, _≤_, _<_, arith, ltb, ltb-true, lt-ltb, le-ltb}
 use Rattle.float.specs.Choice.{pick}
 use Rattle.matrix.specs.Answer.{Answer, done, refused, place}
 use Rattle.matrix.specs.Places.{squareIndex, triangular, packedIndex}

@@ -1,14 +1,7 @@
 -- A square list is the table of its entries, since i = i % n + (i / n) * n; so a move that is done twice is undone entry by entry.
-use mathlib.Core.Path.{_≡_, refl, sym, ap, _∙_, subst}
-use mathlib.Core.Bool.{Bool, true, false}
-use mathlib.Core.List.{List}
-use Prim.Native.Nat.{ℕ, zero, suc, _*_, _/_, _%_, _≤_, _<_}
-use native.Mathlib.Nat.{mod-lt, div-add-mod', div-lt-iff-lt-mul, div-eq-of-lt, mod-eq-of-lt, add-mul-div-right, add-mul-mod-self-right}
-use native.Mathlib.Omega.{arith}
-use borrow.Author.Tests.{ltb-true, ltb-false, eqb-true, eqb-false, eq-eqb, ne-eqb}
-use lib.Dec.{ltb, eqb}
-use lib.ListN.{length}
-use lib.Ieee.{Float, neg}
+use Rattle.float.proofs.Words.{_≡_, refl, sym, ap, _∙_, subst, Bool, true, false, List, ℕ, zero, suc, _*_, _/_, _%_, _≤_, _<_, mod-lt, div-add-mod'}
+use Rattle.float.proofs.Words.{div-lt-iff-lt-mul, div-eq-of-lt, mod-eq-of-lt, add-mul-div-right, add-mul-mod-self-right, arith, ltb, eqb, length, Float, neg}
+use Rattle.float.proofs.Words.{ltb-true, ltb-false, eqb-true, eqb-false, eq-eqb, ne-eqb}
 use Rattle.float.specs.Choice.{pick}
 use Rattle.float.specs.Sign.{finite, allFinite}
 use Rattle.float.proofs.Finite.{at-finite}

@@ -1,11 +1,5 @@
 -- A judged call owes what every kernel owes: each of its three ways ends in the answer or in the refusal with 5 or 7.
-use mathlib.Core.Path.{_≡_, sym, ap, _∙_, subst⁻¹}
-use mathlib.Core.Bool.{true, true≢false}
-use mathlib.Core.List.{List}
-use mathlib.Core.Logic.{inl, inr, ⊎-elim}
-use Prim.Native.Nat.{ℕ}
-use native.Mathlib.Omega.{arith}
-use lib.Ieee.{Float}
+use Rattle.float.proofs.Words.{_≡_, sym, ap, _∙_, subst⁻¹, true, true≢false, List, inl, inr, ⊎-elim, ℕ, arith, Float}
 use Rattle.float.specs.Choice.{pick}
 use Rattle.float.specs.Sign.{allFinite}
 use Rattle.float.specs.Judged.{judgedCall}

@@ -1,14 +1,6 @@
 -- A place that is answered lies in the list: the columns before column c leave n places for it, and the triangle grows by a column at a time.
-use mathlib.Core.Path.{_≡_, refl, ap}
-use mathlib.Core.Logic.{⊎-elim}
-use mathlib.Core.Bool.{Bool, true, false}
-use mathlib.Core.List.{List}
-use Prim.Native.Nat.{ℕ, zero, suc, _+_, _*_, _≤_, _<_}
-use native.Mathlib.Nat.{suc-mul, mul-add, mul-le-mul, mul-le-mul-right, eq-or-lt-of-le}
-use native.Mathlib.Omega.{arith}
-use borrow.Author.Tests.{le-ltb}
-use lib.Dec.{ltb}
-use lib.Ieee.{Float, Format}
+use Rattle.float.proofs.Words.{_≡_, refl, ap, Bool, true, false, List, ⊎-elim, ℕ, zero, suc, _+_, _*_, _≤_, _<_, suc-mul, mul-add, mul-le-mul, mul-le-mul-right}
+use Rattle.float.proofs.Words.{eq-or-lt-of-le, arith, ltb, Float, Format, le-ltb}
 use Rattle.float.specs.Choice.{pick}
 use Rattle.float.proofs.Choice.{by-ltb}
 use Rattle.matrix.specs.Answer.{done, refused}

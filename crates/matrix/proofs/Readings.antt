@@ -1,8 +1,5 @@
 -- Each case of an enum has a code of its own, so code and value together give the case back.
-use mathlib.Core.Path.{_≡_, refl, sym, ap, _∙_}
-use Prim.Native.Nat.{ℕ}
-use lib.Dec.{eqb}
-use lib.Ieee.{Float, Format}
+use Rattle.float.proofs.Words.{_≡_, refl, sym, ap, _∙_, ℕ, eqb, Float, Format}
 use Rattle.float.specs.Choice.{pick}
 use Rattle.float.specs.OneAnswer.{OneAnswer}
 use Rattle.matrix.specs.Answer.{Answer, place, entry, scalar}

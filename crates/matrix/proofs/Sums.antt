@@ -1,7 +1,5 @@
 -- A sum starts at +0, and +0 with -0 added is +0: so numbers that are all -0 have the sum +0.
-use mathlib.Core.Path.{_≡_, refl, ap, _∙_}
-use Prim.Native.Nat.{ℕ, zero, suc}
-use lib.Ieee.{Float, Format, binary32, binary64, ofBits, add, neg}
+use Rattle.float.proofs.Words.{_≡_, refl, ap, _∙_, ℕ, zero, suc, Float, Format, binary32, binary64, ofBits, add, neg}
 use Rattle.float.specs.Constants.{zeroF}
 use Rattle.matrix.specs.Arithmetic.{sumOf}
 

@@ -1,13 +1,6 @@
 -- A list of n numbers is the table of what stands at its places: by induction on n.
-use mathlib.Core.Path.{_≡_, refl, ap, _∙_}
-use mathlib.Core.Bool.{true}
-use mathlib.Core.List.{List, [], _∷_, _++_}
-use Prim.Native.Nat.{ℕ, zero, suc, _≤_, _<_}
-use native.Mathlib.Nat.{zero-add, le-of-suc-le-suc}
-use native.Mathlib.Omega.{arith}
-use lib.ListN.{length, take, drop}
-use lib.Seq.{take-all, sets, sets-eq}
-use lib.Ieee.{Float, Format}
+use Rattle.float.proofs.Words.{_≡_, refl, ap, _∙_, true, List, [], _∷_, _++_, ℕ, zero, suc, _≤_, _<_, zero-add, le-of-suc-le-suc, arith, length, take, drop}
+use Rattle.float.proofs.Words.{take-all, sets, sets-eq, Float, Format}
 use Rattle.float.specs.Sign.{finite, allFinite}
 use Rattle.float.proofs.Finite.{zero-finite}
 use Rattle.matrix.specs.Places.{zeros, at, tabulate}

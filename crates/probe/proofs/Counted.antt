@@ -1,8 +1,6 @@
 -- So many parts of one size.
-use mathlib.Core.Path.{_≡_}
-use Prim.Native.Nat.{ℕ, zero, suc, _+_, _*_, _-_, _/_, _<_, _≤_}
-use native.Mathlib.Nat.{suc-mul, mul-comm, le-trans, mul-le-mul-right, div-le-of-le-mul, div-mul-le-self}
-use native.Mathlib.Omega.{arith}
+use Rattle.float.proofs.Words.{_≡_, ℕ, zero, suc, _+_, _*_, _-_, _/_, _<_, _≤_, suc-mul, mul-comm, le-trans, mul-le-mul-right, div-le-of-le-mul}
+use Rattle.float.proofs.Words.{div-mul-le-self, arith}
 
 -- one of them, and the others
 pub one-less : (k w : ℕ) → 0 < k → k * w ≡ w + (k - 1) * w

@@ -1,12 +1,5 @@
 -- A signed number by its sign: from 0 on it is its own magnitude, and below 0 -1 - z is.
-use mathlib.Core.Path.{_≡_, ap, _∙_}
-use mathlib.Core.Bool.{true, false, true≢false}
-use Prim.Native.Nat.{suc}
-use native.Mathlib.Nat.{lt-of-lt-of-le}
-use native.Mathlib.Omega.{arith}
-use borrow.Author.Tests.{ltb-true, le-ltb}
-use lib.Dec.{T, lit≤}
-use lib.IntN.{ℤ, pos, negsuc, natAbs, _-ℤ_}
+use Rattle.float.proofs.Words.{_≡_, ap, _∙_, true, false, true≢false, suc, lt-of-lt-of-le, arith, T, lit≤, ℤ, pos, negsuc, natAbs, _-ℤ_, ltb-true, le-ltb}
 use lib.Signed.{nonNeg, mag, ltZ}
 use mir.Syntax.{w64}
 use mir.Val.{toZ, ofZ, SFits, Fits}

@@ -1,12 +1,5 @@
 -- Each number is given exactly under its row's condition: the record step asks the rows one after the other, in the table's order.
-use mathlib.Core.Path.{_≡_, refl, sym, ap, _∙_}
-use mathlib.Core.Bool.{Bool, true, false, not, _&&_}
-use mathlib.Core.List.{List, [], _∷_}
-use Prim.Native.Nat.{ℕ}
-use native.Mathlib.Omega.{arith}
-use lib.Dec.{eqb}
-use lib.ListN.{length}
-use lib.Ieee.{Format}
+use Rattle.float.proofs.Words.{_≡_, refl, sym, ap, _∙_, Bool, true, false, not, _&&_, List, [], _∷_, ℕ, arith, eqb, length, Format}
 use Rattle.float.specs.Choice.{pick}
 use Rattle.float.specs.Exactly.{Exactly}
 use Rattle.kinds.specs.Slots.{knownKind}

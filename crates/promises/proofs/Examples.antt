@@ -1,7 +1,5 @@
 -- The definitions give every row's answer: by computation.
-use mathlib.Core.Path.{_≡_, refl}
-use mathlib.Core.List.{map}
-use lib.Ieee.{add, sub, mul, div, lt, le, eq, ofBits, toBits}
+use Rattle.float.proofs.Words.{_≡_, refl, map, add, sub, mul, div, lt, le, eq, ofBits, toBits}
 use Rattle.float.specs.Judged.{judged}
 use Rattle.float.specs.Root.{rootOf}
 use Rattle.float.specs.Sign.{magnitudeOf, signBitOf, signumOf, finite, allFinite}

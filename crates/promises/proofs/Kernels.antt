@@ -1,13 +1,6 @@
 -- A kind's code over finite numbers: 6 where a pivot is not above zero, else 7 where a number of the answer is not finite, else 0.
 -- It is the kernel's own exact code, of which 5 is left out.
-use mathlib.Core.Path.{_≡_, refl, sym, ap, _∙_, subst}
-use mathlib.Core.Bool.{Bool, true, false, not}
-use mathlib.Core.List.{List, _++_}
-use Prim.Native.Nat.{ℕ, suc, _≤_}
-use native.Mathlib.Omega.{arith}
-use borrow.Author.Tests.{leb-true}
-use lib.Dec.{leb}
-use lib.Ieee.{Float, Format}
+use Rattle.float.proofs.Words.{_≡_, refl, sym, ap, _∙_, subst, Bool, true, false, not, List, _++_, ℕ, suc, _≤_, arith, leb, Float, Format, leb-true}
 use Rattle.float.specs.Choice.{pick}
 use Rattle.float.specs.Sign.{allFinite}
 use Rattle.float.proofs.Choice.{by-eqb}

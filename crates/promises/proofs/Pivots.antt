@@ -1,10 +1,5 @@
 -- With code 6 an answer has the number of the first pivot that is at most zero: the steps stop there, and their number is handed on.
-use mathlib.Core.Path.{_≡_, refl, sym, _∙_}
-use mathlib.Core.Bool.{Bool, true, false, _&&_}
-use mathlib.Core.List.{List}
-use Prim.Native.Nat.{ℕ}
-use native.Mathlib.Omega.{arith}
-use lib.Ieee.{Float, Format}
+use Rattle.float.proofs.Words.{_≡_, refl, sym, _∙_, Bool, true, false, _&&_, List, ℕ, arith, Float, Format}
 use Rattle.float.specs.Choice.{pick}
 use Rattle.float.specs.Sign.{allFinite}
 use Rattle.float.proofs.Choice.{by-test, by-eqb}

@@ -1,11 +1,6 @@
 -- The first row that holds has the number k exactly when row k holds and none before it does: by going down the rows.
-use mathlib.Core.Path.{_≡_, refl, sym, ap, _∙_}
-use mathlib.Core.Bool.{Bool, true, false, not, _&&_, false≢true, true≢false}
-use mathlib.Core.List.{List, [], _∷_}
-use Prim.Native.Nat.{ℕ, _<_}
-use native.Mathlib.Omega.{arith}
-use borrow.Author.Tests.{eqb-true, eqb-false}
-use lib.Dec.{eqb}
+use Rattle.float.proofs.Words.{_≡_, refl, sym, ap, _∙_, Bool, true, false, not, _&&_, false≢true, true≢false, List, [], _∷_, ℕ, _<_, arith, eqb, eqb-true}
+use Rattle.float.proofs.Words.{eqb-false}
 use Rattle.float.specs.Choice.{pick}
 use Rattle.float.specs.Exactly.{Exactly}
 use Rattle.float.proofs.Finite.{both-true}

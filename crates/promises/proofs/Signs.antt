@@ -1,14 +1,7 @@
 -- A number whose highest bit is flipped is its negation: the other fields stay, and the sign is the other one.
-use mathlib.Core.Path.{_≡_, refl, sym, ap, _∙_}
-use mathlib.Core.Bool.{Bool, true, false, cond}
-use mathlib.Core.List.{List, [], _∷_, _++_}
-use Prim.Native.Nat.{ℕ, zero, suc, _+_, _-_, _*_, _/_, _%_, _^_, _≤_, _<_}
-use native.Mathlib.Nat.{pow-zero, pow-suc, mul-add, mul-le-mul-left}
-use native.Mathlib.Omega.{arith}
-use borrow.Author.Tests.{le-leb, lt-leb}
-use lib.Dec.{eqb}
-use lib.ListN.{length}
-use lib.Ieee.{Float, nan, inf, Format, binary32, binary64, neg, odd, prec, low, ones, hid, top, ofFields, ofBits}
+use Rattle.float.proofs.Words.{_≡_, refl, sym, ap, _∙_, Bool, true, false, cond, List, [], _∷_, _++_, ℕ, zero, suc, _+_, _-_, _*_, _/_, _%_, _^_, _≤_, _<_}
+use Rattle.float.proofs.Words.{pow-zero, pow-suc, mul-add, mul-le-mul-left, arith, eqb, length, Float, nan, inf, Format, binary32, binary64, neg, odd, prec}
+use Rattle.float.proofs.Words.{low, ones, hid, top, ofFields, ofBits, le-leb, lt-leb}
 use Rattle.float.proofs.Choice.{by-ltb}
 use Rattle.float.proofs.Negation.{neg-twice}
 use Rattle.record.specs.Bytes.{wordOf}

@@ -1,12 +1,5 @@
 -- Every number of a record is finite: each kernel owes that of its answer with code 0, and what is refused and the places that are left over hold +0.
-use mathlib.Core.Path.{_≡_, refl}
-use mathlib.Core.Bool.{true}
-use mathlib.Core.List.{List}
-use Prim.Native.Nat.{ℕ}
-use native.Mathlib.Omega.{arith}
-use lib.Dec.{eqb, ltb}
-use lib.ListN.{length}
-use lib.Ieee.{Float, Format}
+use Rattle.float.proofs.Words.{_≡_, refl, true, List, ℕ, arith, eqb, ltb, length, Float, Format}
 use Rattle.float.specs.Choice.{pick}
 use Rattle.float.specs.Constants.{zeroF}
 use Rattle.float.specs.Sign.{finite, allFinite}

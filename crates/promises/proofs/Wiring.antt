@@ -1,17 +1,9 @@
 -- Reversed wiring at the record: the flipped request says the same of its form, its six numbers are the negated ones,
 -- and of the kernel's answers the theorem `reversed` tells.
-use mathlib.Core.Path.{_≡_, refl, sym, ap, _∙_, subst}
-use mathlib.Core.Bool.{Bool, true, false, _&&_}
-use mathlib.Core.List.{List, [], _∷_, _++_}
-use Prim.Native.Nat.{ℕ, zero, suc, _+_, _-_, _*_, _≤_, _<_}
-use native.Mathlib.Nat.{mul-zero, mul-suc}
-use native.Mathlib.Omega.{arith}
-use borrow.Author.Tests.{eqb-false}
+use Rattle.float.proofs.Words.{_≡_, refl, sym, ap, _∙_, subst, Bool, true, false, _&&_, List, [], _∷_, _++_, ℕ, zero, suc, _+_, _-_, _*_, _≤_, _<_, mul-zero}
+use Rattle.float.proofs.Words.{mul-suc, arith, eqb, length, getD, take, drop, length-append, length-take, length-drop, take-all, take-suc, take-append-seam}
+use Rattle.float.proofs.Words.{drop-append-add, drop-drop, length-take-le, Float, Format, binary32, binary64, neg, ofBits, eqb-false}
 use contract.Lifetimes.{Lfts}
-use lib.Dec.{eqb}
-use lib.ListN.{length, getD, take, drop, length-append, length-take, length-drop}
-use lib.Seq.{take-all, take-suc, take-append-seam, drop-append-add, drop-drop, length-take-le}
-use lib.Ieee.{Float, Format, binary32, binary64, neg, ofBits}
 use Rattle.float.specs.Width.{F}
 use Rattle.float.specs.Choice.{pick}
 use Rattle.float.specs.Sign.{allFinite}

@@ -1,16 +1,7 @@
 -- Every answer: its size, its code in byte 5, zeros from the mark on where the code is not 0, and 5 only by the record's own test.
-use mathlib.Core.Path.{_≡_, refl, sym, ap, _∙_}
-use mathlib.Core.Logic.{_⊎_, inl, inr, ⊎-elim}
-use mathlib.Core.Bool.{true}
-use mathlib.Core.List.{List, _∷_}
-use Prim.Native.Nat.{ℕ, zero, suc, _+_, _-_, _*_, _≤_}
-use native.Mathlib.Nat.{mul-zero, mul-suc}
-use native.Mathlib.Omega.{arith}
-use borrow.Author.Tests.{eq-eqb, ne-eqb}
-use lib.Dec.{eqb}
-use lib.ListN.{length, getD, take, drop, replicate, length-append, length-take, length-drop, replicate-append-replicate}
-use lib.Seq.{length-take-le, getD-append-add, drop-append-add, drop-drop}
-use lib.Ieee.{Format}
+use Rattle.float.proofs.Words.{_≡_, refl, sym, ap, _∙_, true, List, _∷_, _⊎_, inl, inr, ⊎-elim, ℕ, zero, suc, _+_, _-_, _*_, _≤_, mul-zero, mul-suc, arith, eqb}
+use Rattle.float.proofs.Words.{length, getD, take, drop, replicate, length-append, length-take, length-drop, replicate-append-replicate, length-take-le}
+use Rattle.float.proofs.Words.{getD-append-add, drop-append-add, drop-drop, Format, eq-eqb, ne-eqb}
 use Rattle.float.proofs.Choice.{chosen, by-eqb}
 use Rattle.kinds.specs.Work.{refusedKind, workOf}
 use Rattle.kinds.proofs.Works.{Sized, work-sized, Clear, work-clear, work-five}

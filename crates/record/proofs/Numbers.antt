@@ -1,14 +1,7 @@
 -- Numbers in bytes, over the format.
-use mathlib.Core.Path.{_≡_, refl, sym, ap}
-use mathlib.Core.Bool.{not}
-use mathlib.Core.List.{List, [], _∷_, _++_, append-assoc, append-nil}
-use Prim.Native.Nat.{ℕ, zero, suc, _+_, _*_, _^_, _<_}
-use native.Mathlib.Nat.{mul-zero, mul-suc, add-assoc, add-comm}
-use native.Mathlib.Numerals.{add-one}
-use lib.Dec.{T}
-use lib.ListN.{length, getD, take, replicate, length-append, replicate-append-replicate}
-use lib.Seq.{take-suc}
-use lib.Ieee.{Float, nan, Format, binary32, binary64, fits, isNan, top, ofBits, toBits}
+use Rattle.float.proofs.Words.{_≡_, refl, sym, ap, not, List, [], _∷_, _++_, append-assoc, append-nil, ℕ, zero, suc, _+_, _*_, _^_, _<_, mul-zero, mul-suc}
+use Rattle.float.proofs.Words.{add-assoc, add-comm, add-one, T, length, getD, take, replicate, length-append, replicate-append-replicate, take-suc, Float, nan}
+use Rattle.float.proofs.Words.{Format, binary32, binary64, fits, isNan, top, ofBits, toBits}
 use lib.Ieee.Bits.{ofBits-toBits, toBits-lt, toBits-ofBits}
 use Rattle.float.specs.Constants.{zeroF}
 use Rattle.matrix.specs.Places.{zeros}

@@ -1,11 +1,6 @@
 -- Parts of a list: what one more element, one more store or one more number does to them.
-use mathlib.Core.Path.{_≡_, refl, sym, ap, _∙_}
-use mathlib.Core.List.{List, [], _∷_, _++_}
-use Prim.Native.Nat.{ℕ, _+_, _≤_, _<_}
-use native.Mathlib.Omega.{arith}
-use native.Mathlib.Numerals.{add-one}
-use lib.ListN.{length, getD, take, set}
-use lib.Seq.{take-all, take-suc, take-suc-set, drop-cons}
+use Rattle.float.proofs.Words.{_≡_, refl, sym, ap, _∙_, List, [], _∷_, _++_, ℕ, _+_, _≤_, _<_, arith, add-one, length, getD, take, set, take-all, take-suc}
+use Rattle.float.proofs.Words.{take-suc-set, drop-cons}
 use Rattle.record.specs.Bytes.{part}
 
 -- a part begins with its first byte

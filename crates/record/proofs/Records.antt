@@ -1,10 +1,5 @@
 -- The bytes of a record: its head and its three groups of numbers, written one after the other, are the whole.
-use mathlib.Core.Path.{_≡_, sym, ap, _∙_}
-use mathlib.Core.List.{List, [], _∷_, _++_, append-assoc}
-use Prim.Native.Nat.{ℕ, _≤_}
-use lib.ListN.{length, getD, take}
-use lib.Seq.{take-all}
-use lib.Ieee.{Format}
+use Rattle.float.proofs.Words.{_≡_, sym, ap, _∙_, List, [], _∷_, _++_, append-assoc, ℕ, _≤_, length, getD, take, take-all, Format}
 use Rattle.record.specs.Bytes.{numberBytesOf}
 use Rattle.record.specs.Answer.{recordOf}
 use Rattle.record.proofs.Parts.{four}

@@ -1,12 +1,6 @@
 -- Answers one after the other: one more behind those that are there, with what lies behind it as it was.
-use mathlib.Core.Path.{_≡_, ap}
-use mathlib.Core.List.{List, _++_, append-assoc}
-use Prim.Native.Nat.{ℕ, _+_, _*_, _≤_}
-use native.Mathlib.Omega.{arith}
-use native.Mathlib.Numerals.{add-one}
-use borrow.Author.Tests.{eq-eqb}
-use lib.ListN.{length, take, drop, length-take, length-append}
-use lib.Seq.{take-at, drop-at, drop-drop}
+use Rattle.float.proofs.Words.{_≡_, ap, List, _++_, append-assoc, ℕ, _+_, _*_, _≤_, arith, add-one, length, take, drop, length-take, length-append, take-at}
+use Rattle.float.proofs.Words.{drop-at, drop-drop, eq-eqb}
 use Rattle.float.specs.Width.{F}
 use Rattle.record.specs.Layout.{requestSize, answerSize}
 use Rattle.record.specs.Answer.{answeredOf, recordStepOf}

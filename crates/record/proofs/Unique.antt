@@ -1,5 +1,5 @@
 -- Any two answers within the promise of a public function are equal. Each promise is read from the source, as a caller reads it.
-use Prim.Native.Nat.{ℕ}
+use Rattle.float.proofs.Words.{ℕ}
 use contract.Lifetimes.{Lfts}
 use Rattle.float.specs.OneAnswer.{OneAnswer, OneOutcome}
 use Rattle.float.proofs.OneAnswer.{named, both-named}

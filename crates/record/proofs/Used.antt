@@ -1,10 +1,5 @@
 -- The finite test of the first of all numbers is the test of those that a kind uses.
-use mathlib.Core.Path.{_≡_, ap, _∙_}
-use mathlib.Core.Bool.{true, _&&_}
-use mathlib.Core.List.{List}
-use Prim.Native.Nat.{ℕ}
-use lib.ListN.{take}
-use lib.Ieee.{Format}
+use Rattle.float.proofs.Words.{_≡_, ap, _∙_, true, _&&_, List, ℕ, take, Format}
 use Rattle.float.specs.Sign.{allFinite}
 use Rattle.float.proofs.Finite.{both-true}
 use Rattle.matrix.proofs.Tables.{take-tabulate, first-tabulate}

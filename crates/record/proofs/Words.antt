@@ -1,11 +1,6 @@
 -- Words and their bytes, over the width.
-use mathlib.Core.Path.{_≡_, refl, sym, ap, _∙_}
-use mathlib.Core.List.{List, [], _∷_, _++_, append-assoc}
-use Prim.Native.Nat.{ℕ, zero, suc, _+_, _*_, _/_, _%_, _^_, _≤_, _<_}
-use native.Mathlib.Omega.{arith}
-use native.Mathlib.Nat.{pow-zero, pow-suc, pow-le-pow-right}
-use native.Mathlib.Numerals.{add-one}
-use lib.ListN.{length, getD, take, set}
+use Rattle.float.proofs.Words.{_≡_, refl, sym, ap, _∙_, List, [], _∷_, _++_, append-assoc, ℕ, zero, suc, _+_, _*_, _/_, _%_, _^_, _≤_, _<_, pow-zero, pow-suc}
+use Rattle.float.proofs.Words.{pow-le-pow-right, arith, add-one, length, getD, take, set}
 use Rattle.float.specs.Width.{F}
 use Rattle.record.specs.Layout.{numberBytes}
 use Rattle.record.specs.Bytes.{wordOf, bytesOf, part}

@@ -1,13 +1,7 @@
 -- The zero test of bytes, from a place on, and bytes taken together bit by bit: none has a bit exactly where all are zero.
-use mathlib.Core.Path.{_≡_, refl, sym, ap, _∙_}
-use mathlib.Core.Bool.{Bool, true, false, _&&_, and-assoc}
-use mathlib.Core.List.{List}
-use Prim.Native.Nat.{ℕ, _+_, _-_, _≤_, _<_}
-use native.Mathlib.Omega.{arith}
-use borrow.Author.Tests.{eq-eqb, ne-eqb, eqb-true, eqb-false}
+use Rattle.float.proofs.Words.{_≡_, refl, sym, ap, _∙_, Bool, true, false, _&&_, and-assoc, List, ℕ, _+_, _-_, _≤_, _<_, arith, eqb, length, getD, eq-eqb}
+use Rattle.float.proofs.Words.{ne-eqb, eqb-true, eqb-false}
 use lib.Bits.{bitOr, or-add-and, and-le-l, and-le-r, or-zero-l}
-use lib.Dec.{eqb}
-use lib.ListN.{length, getD}
 use Rattle.record.specs.Bytes.{allZero, zeroFrom}
 use Rattle.record.proofs.Parts.{part-more}
 

@@ -1,7 +1,5 @@
 -- An answer with code 0 is that of the last state, of finite numbers: a judged call leaves another code on every other way.
-use mathlib.Core.Path.{_≡_, refl}
-use mathlib.Core.List.{List}
-use lib.Ieee.{Float, Format}
+use Rattle.float.proofs.Words.{_≡_, refl, List, Float, Format}
 use Rattle.float.proofs.Judged.{Accepted, accepted}
 use Rattle.svd.specs.Svd3x3.{lastOf, refusedSvd, numbersOf, answerOf, endOf, svdOf}
 use Rattle.svd.specs.Svd2x2.{sides2Of, factors2Of, refusedSvd2, numbers2Of, answer2Of, end2Of, svd2Of}

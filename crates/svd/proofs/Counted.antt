@@ -1,7 +1,5 @@
 -- Count and mark are those of the definition's states: each step raises the count by one, and the mark is the test of the last state.
-use mathlib.Core.Path.{_≡_, refl, sym, ap, _∙_}
-use mathlib.Core.List.{List}
-use lib.Ieee.{Float, Format}
+use Rattle.float.proofs.Words.{_≡_, refl, sym, ap, _∙_, List, Float, Format}
 use Rattle.float.specs.Width.{F}
 use Rattle.matrix.specs.declared.square.Mat3.{Mat3}
 use Rattle.jacobi.proofs.Run.{ran-counted}

@@ -1,8 +1,5 @@
 -- From the magnitudes, the signed U, and V, all three are moved by one permutation, whatever the comparisons choose: each exchange moves all three.
-use mathlib.Core.List.{List}
-use Prim.Native.Nat.{ℕ}
-use native.Mathlib.Omega.{arith}
-use lib.Ieee.{Float}
+use Rattle.float.proofs.Words.{List, ℕ, arith, Float}
 use Rattle.jacobi.specs.Moved.{Moved}
 use Rattle.jacobi.proofs.Moves.{Carries, columns-carried, ordered-moves, ordered3-moves}
 use Rattle.svd.specs.Order.{signed3Of, signed2Of, exchangeBoth, orderOf, order2Of}

@@ -1,11 +1,5 @@
 -- The values of an answer are magnitudes in order, and finite, so they descend to zero or above.
-use mathlib.Core.Path.{_≡_, sym, ap, _∙_}
-use mathlib.Core.Bool.{true, false}
-use mathlib.Core.List.{List, _++_}
-use Prim.Native.Nat.{ℕ, _<_}
-use native.Mathlib.Omega.{arith}
-use lib.ListN.{length}
-use lib.Ieee.{Float, Format}
+use Rattle.float.proofs.Words.{_≡_, sym, ap, _∙_, true, false, List, _++_, ℕ, _<_, arith, length, Float, Format}
 use Rattle.float.specs.Width.{F}
 use Rattle.float.specs.Sign.{signBitOf, finite}
 use Rattle.float.proofs.Finite.{at-finite, parts-finite, magnitude-finite, magnitude-unsigned}

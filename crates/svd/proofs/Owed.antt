@@ -1,11 +1,5 @@
 -- Both calls owe what every kernel owes: they are judged, the lists of an answer are full, and its values are numbers that were judged or magnitudes of such.
-use mathlib.Core.Path.{_≡_, refl}
-use mathlib.Core.Bool.{true}
-use mathlib.Core.List.{List, _++_}
-use Prim.Native.Nat.{ℕ}
-use native.Mathlib.Omega.{arith}
-use lib.ListN.{length}
-use lib.Ieee.{Float, Format}
+use Rattle.float.proofs.Words.{_≡_, refl, true, List, _++_, ℕ, arith, length, Float, Format}
 use Rattle.float.specs.Choice.{pick}
 use Rattle.float.specs.Sign.{finite, allFinite}
 use Rattle.float.proofs.Finite.{at-finite, parts-finite, magnitude-finite}

@@ -1,12 +1,6 @@
 -- Settled means that the sums of all three pairs are under the limit: the test reads the largest of them. A sum of two magnitudes may overflow, but it is no
 -- NaN.
-use mathlib.Core.Path.{_≡_, refl, sym, ap, _∙_}
-use mathlib.Core.Bool.{true, false}
-use mathlib.Core.List.{List}
-use Prim.Native.Nat.{ℕ, _<_}
-use native.Mathlib.Omega.{arith}
-use lib.ListN.{length}
-use lib.Ieee.{Float, Format, lt, add, isNan}
+use Rattle.float.proofs.Words.{_≡_, refl, sym, ap, _∙_, true, false, List, ℕ, _<_, arith, length, Float, Format, lt, add, isNan}
 use Rattle.float.specs.Width.{F}
 use Rattle.float.specs.Constants.{limitF}
 use Rattle.float.specs.Exactly.{Exactly}

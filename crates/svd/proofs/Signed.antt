@@ -1,10 +1,5 @@
 -- The sign of a column: each outcome of the test of the sign bit leaves one way through the choice, and a sign that is changed twice is back.
-use mathlib.Core.Path.{_≡_, refl}
-use mathlib.Core.Bool.{Bool, true, false}
-use mathlib.Core.List.{List}
-use Prim.Native.Nat.{ℕ, _*_}
-use lib.ListN.{length}
-use lib.Ieee.{Float}
+use Rattle.float.proofs.Words.{_≡_, refl, Bool, true, false, List, ℕ, _*_, length, Float}
 use Rattle.float.specs.Choice.{pick}
 use Rattle.float.specs.Sign.{signBitOf}
 use Rattle.matrix.specs.Square.{negateOf}

@@ -1,9 +1,5 @@
 -- Every list of a state and of its factors has its numbers: each rotation writes all nine, and neither a sign nor an exchange changes how many there are.
-use mathlib.Core.Path.{_≡_, refl}
-use mathlib.Core.List.{List}
-use Prim.Native.Nat.{ℕ, _*_}
-use lib.ListN.{length}
-use lib.Ieee.{Float, Format}
+use Rattle.float.proofs.Words.{_≡_, refl, List, ℕ, _*_, length, Float, Format}
 use Rattle.float.specs.Sign.{signBitOf}
 use Rattle.float.proofs.Choice.{chosen}
 use Rattle.matrix.specs.Square.{negateOf}

@@ -1,10 +1,5 @@
 -- A large buffer has room for a batch of answers, and there are no more requests than that.
-use borrow.Author.Needs.{needs}
-use mathlib.Core.Path.{_≡_, _∙_}
-use mathlib.Core.List.{List}
-use Prim.Native.Nat.{ℕ, _/_, _≤_}
-use native.Mathlib.Omega.{arith}
-use lib.ListN.{length, take, length-take}
+use Rattle.float.proofs.Words.{_≡_, _∙_, List, ℕ, _/_, _≤_, arith, length, take, length-take, needs}
 use Rattle.float.specs.Width.{F}
 use Rattle.record.specs.Layout.{requestSize}
 use Rattle.record.specs.Stream.{streamOf}

@@ -1,8 +1,5 @@
 -- Byte i is read at or behind where it goes, so it is still the one of the beginning.
-use mathlib.Core.Path.{_≡_, refl, subst}
-use Prim.Native.Nat.{_-_, _≤_}
-use native.Mathlib.Omega.{arith}
-use lib.ListN.{length, take, drop, length-set}
+use Rattle.float.proofs.Words.{_≡_, refl, subst, _-_, _≤_, arith, length, take, drop, length-set}
 use Rattle.answers.proofs.Moving.{moved, rest-kept}
 use Rattle.answers.proofs.keep_rest.Statement.{statement}
 use Rattle.answers.proofs.keep_rest.Tie as tie
@@ -52,17 +49,4 @@ returns c =
     subst (λ n. take n (k .loop .buf) ≡ take n (drop (a .from) (a .buf .now))) e (k .loop .inv .2)
 
 pub keep-rest-spec : {M : Type 1} → statement M
-keep-rest-spec =
-    tie.close
-    (tie.spec
-    Inv-loop
-    μ-loop
-    loop-holds
-    add-buf
-    slice-read-buf
-    slice-write-buf
-    add-i
-    loop-less
-    loop-again
-    same-length
-    returns)
+keep-rest-spec = tie.close (tie.spec Inv-loop μ-loop loop-holds add-buf slice-read-buf slice-write-buf add-i loop-less loop-again same-length returns)

@@ -1,11 +1,6 @@
 -- Three finite values and their negations are put in opposite orders: as keys, which are natural numbers, values in order are the least, the middle and the
 -- greatest, and those of the negations are their mirror images. Where no two are equal a key tells the one place where its value stood, so its column follows.
-use mathlib.Core.Path.{_≡_, refl, sym, ap, _∙_}
-use mathlib.Core.Bool.{true}
-use mathlib.Core.List.{List}
-use Prim.Native.Nat.{ℕ, _+_, _-_, _≤_, _<_, min, max}
-use native.Mathlib.Omega.{arith}
-use lib.Ieee.{Float}
+use Rattle.float.proofs.Words.{_≡_, refl, sym, ap, _∙_, true, List, ℕ, _+_, _-_, _≤_, _<_, min, max, arith, Float}
 use Rattle.float.proofs.Negation.{Rel}
 use Rattle.float.proofs.Keys.{key, Within, key-rel, within-rel, opposite, differ}
 use Rattle.matrix.specs.Places.{at}

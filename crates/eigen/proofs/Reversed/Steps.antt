@@ -1,11 +1,7 @@
 -- Two matrices that are the same or negated, place by place, stay so through every rotation: the tests and the rotation are the same for both, and what a
 -- rotation
 -- makes of a matrix is sums and products that keep signs apart. So both runs make as many rotations and turn the vectors alike.
-use mathlib.Core.Path.{_≡_, ap, subst₂, _∙_}
-use mathlib.Core.Bool.{Bool}
-use mathlib.Core.List.{List, [], _∷_}
-use Prim.Native.Nat.{ℕ, _<_}
-use lib.Ieee.{Float, Format, lt}
+use Rattle.float.proofs.Words.{_≡_, ap, subst₂, _∙_, Bool, List, [], _∷_, ℕ, _<_, Float, Format, lt}
 use Rattle.float.specs.Constants.{limitF}
 use Rattle.float.specs.Sign.{allFinite}
 use Rattle.float.proofs.Negation.{Rel, same, zero-rel, add-rel, sub-rel, mul-rel, magnitude-rel, finite-rel}

@@ -1,7 +1,6 @@
 -- What `eigen_jacobi` answers to a matrix and to its negation differs only in the order of the axes: its promise names the answer, of which `reversed` says so.
 -- The promise is read from the source, as a caller reads it.
-use mathlib.Core.Path.{_≡_, sym, ap, _∙_, subst₂}
-use lib.ListN.{length}
+use Rattle.float.proofs.Words.{_≡_, sym, ap, _∙_, subst₂, length}
 use Rattle.float.specs.Width.{F}
 use Rattle.matrix.specs.declared.symmetric.Sym3.{Sym3}
 use Rattle.eigen.specs.Eigen3x3.{eigenOf}

@@ -1,6 +1,5 @@
 -- Each return is one outcome of the three tests, in the order of the definition; the rotation itself is the one of `apply_rotation`.
-use mathlib.Core.Path.{ap, _∙_}
-use borrow.Author.Needs.{needs}
+use Rattle.float.proofs.Words.{ap, _∙_, needs}
 use Rattle.float.specs.Sign.{allFinite}
 use Rattle.float.proofs.Branches.{passes, fails}
 use Rattle.matrix.specs.declared.symmetric.Sym3.{Sym3}
@@ -46,17 +45,6 @@ returns-4 c =
     (ap (λ (m : Sym3). record { code = 0; matrix = m }) (applied .apply-rotation .ensures))
 
 pub rotated-spec : {M : Type 1} → statement M
-rotated-spec =
-    tie.close
-    (tie.spec
-    (λ c. search needs)
-    (λ c κs. search needs)
-    returns
-    (λ c. search needs)
-    (λ c κs. search needs)
-    returns-2
-    (λ c κs. search needs)
-    (λ c. search needs)
-    (λ c κs. search needs)
-    returns-3
-    returns-4)
+rotated-spec = tie.close (tie.spec
+    (λ c. search needs) (λ c κs. search needs) returns (λ c. search needs) (λ c κs. search needs) returns-2 (λ c κs. search needs) (λ c. search needs)
+    (λ c κs. search needs) returns-3 returns-4)

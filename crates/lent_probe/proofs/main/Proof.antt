@@ -1,5 +1,5 @@
 -- `lent_probe::main` is safe and ends: the measure is the turns left.
-use borrow.Author.Needs.{needs}
+use Rattle.float.proofs.Words.{needs}
 use Rattle.lent_probe.proofs.main.Statement.{statement}
 use Rattle.lent_probe.proofs.main.Tie as tie
 
@@ -10,15 +10,6 @@ abbrev μ-loop : tie.MeasureT-loop
 μ-loop turns₀ turns = turns
 
 pub main-spec : {M : Type 1} → statement M
-main-spec =
-    tie.close
-    (tie.spec
-    Inv-loop
-    μ-loop
-    (λ c. search needs)
-    (λ c κs. search needs)
-    (λ c. search needs)
-    (λ c. search needs)
-    (λ c. search needs)
-    (λ c. search needs)
+main-spec = tie.close (tie.spec
+    Inv-loop μ-loop (λ c. search needs) (λ c κs. search needs) (λ c. search needs) (λ c. search needs) (λ c. search needs) (λ c. search needs)
     (λ c. search needs))

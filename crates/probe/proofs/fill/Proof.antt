@@ -1,7 +1,5 @@
 -- `probe::fill` is safe: `end` lies within the slice, and it hands back no more.
-use borrow.Author.Needs.{needs}
-use native.Mathlib.Omega.{arith}
-use lib.ListN.{length-take}
+use Rattle.float.proofs.Words.{arith, length-take, needs}
 use Rattle.probe.proofs.fill.Statement.{statement}
 use Rattle.probe.proofs.fill.Tie as tie
 
@@ -9,13 +7,5 @@ slice-aggregate-read-full : tie.Need-slice-aggregate-read-full
 slice-aggregate-read-full c = simp length-take (omega arith)
 
 pub fill-spec : {M : Type 1} → statement M
-fill-spec =
-    tie.close
-    (tie.spec
-    (λ c. search needs)
-    slice-aggregate-read-full
-    (λ c κs. search needs)
-    (λ c. search needs)
-    (λ c. search needs)
-    (λ c. search needs)
-    (λ c. search needs))
+fill-spec = tie.close (tie.spec
+    (λ c. search needs) slice-aggregate-read-full (λ c κs. search needs) (λ c. search needs) (λ c. search needs) (λ c. search needs) (λ c. search needs))

@@ -1,8 +1,5 @@
 -- `probe::round` is safe: what came goes into as many whole items as a round takes, whose answers fit.
-use borrow.Author.Needs.{needs}
-use native.Mathlib.Omega.{arith}
-use Prim.Native.Nat.{_*_}
-use lib.ListN.{length-take}
+use Rattle.float.proofs.Words.{_*_, arith, length-take, needs}
 use Rattle.probe.proofs.Counted.{split}
 use Rattle.probe.proofs.round.Statement.{statement}
 use Rattle.probe.proofs.round.Tie as tie
@@ -36,22 +33,7 @@ slice-aggregate-written c =
     simp length-take (omega arith)
 
 pub round-spec : {M : Type 1} → statement M
-round-spec =
-    tie.close
-    (tie.spec
-    (λ c. search needs)
-    (λ c. search needs)
-    (λ c κs. search needs)
-    (λ c. search needs)
-    answer-items-requires
-    (λ c. search needs)
-    mul-full-2
-    slice-reshare-prefix-written
-    slice-aggregate-written
-    (λ c κs. search needs)
-    (λ c. search needs)
-    (λ c. search needs)
-    (λ c. search needs)
-    (λ c. search needs)
-    (λ c. search needs)
-    (λ c. search needs))
+round-spec = tie.close (tie.spec
+    (λ c. search needs) (λ c. search needs) (λ c κs. search needs) (λ c. search needs) answer-items-requires (λ c. search needs) mul-full-2
+    slice-reshare-prefix-written slice-aggregate-written (λ c κs. search needs) (λ c. search needs) (λ c. search needs) (λ c. search needs) (λ c. search needs)
+    (λ c. search needs) (λ c. search needs))

@@ -1,10 +1,5 @@
 -- What went out never passes what there is, since one write moves no more than it was handed; and each round takes a try.
-use borrow.Author.Needs.{needs}
-use mathlib.Core.Path.{subst}
-use mathlib.Core.List.{List}
-use Prim.Native.Nat.{ℕ, _+_, _-_, _≤_}
-use native.Mathlib.Omega.{arith}
-use lib.ListN.{length, take, drop, length-take}
+use Rattle.float.proofs.Words.{subst, List, ℕ, _+_, _-_, _≤_, arith, length, take, drop, length-take, needs}
 use Rattle.answers.specs.Buffers.{AtMost}
 use Rattle.answers.proofs.output.put.Statement.{statement}
 use Rattle.answers.proofs.output.put.Tie as tie
@@ -33,22 +28,6 @@ loop-again c =
     moved-within _ (k .loop .done) (k .before .before .args .out .now) w (k .loop .inv)
 
 pub put-spec : {M : Type 1} → statement M
-put-spec =
-    tie.close
-    (tie.spec
-    Inv-loop
-    μ-loop
-    (λ c. search needs)
-    (λ c. search needs)
-    (λ c. search needs)
-    (λ c. search needs)
-    (λ c. search needs)
-    (λ c κs. search needs)
-    (λ c. search needs)
-    (λ c. search needs)
-    (λ c. search needs)
-    add-done
-    (λ c. search needs)
-    (λ c. search needs)
-    loop-again
-    (λ c. search needs))
+put-spec = tie.close (tie.spec
+    Inv-loop μ-loop (λ c. search needs) (λ c. search needs) (λ c. search needs) (λ c. search needs) (λ c. search needs) (λ c κs. search needs)
+    (λ c. search needs) (λ c. search needs) (λ c. search needs) add-done (λ c. search needs) (λ c. search needs) loop-again (λ c. search needs))

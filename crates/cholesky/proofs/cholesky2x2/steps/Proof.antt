@@ -1,8 +1,5 @@
 -- Each pivot step either hands its root on or stops the factor, as the definition has it.
-use mathlib.Core.Path.{_≡_, ap, _∙_}
-use mathlib.Core.List.{List}
-use borrow.Author.Needs.{needs}
-use lib.Ieee.{Float, div}
+use Rattle.float.proofs.Words.{_≡_, ap, _∙_, List, Float, div, needs}
 use Rattle.float.specs.Width.{F}
 use Rattle.matrix.specs.Places.{at}
 use Rattle.cholesky.specs.Factor.{factor2, second2Of, steps2Of}
@@ -55,22 +52,6 @@ returns-3 c =
     (goes-second2 F (l-of s) (a-of s) (l11 k) (l21 k) (c .before .before .before .before .pivot-step2 .ensures) (c .before .before .p2 .given .1) ∙ first k)
 
 pub steps-spec : {M : Type 1} → statement M
-steps-spec =
-    tie.close
-    (tie.spec
-    (λ c. search needs)
-    (λ c κs. search needs)
-    (λ c. search needs)
-    enum-told
-    (λ c κs. search needs)
-    returns
-    (λ c. search needs)
-    (λ c. search needs)
-    (λ c κs. search needs)
-    (λ c. search needs)
-    (λ c. search needs)
-    (λ c. search needs)
-    (λ c κs. search needs)
-    returns-2
-    (λ c κs. search needs)
-    returns-3)
+steps-spec = tie.close (tie.spec
+    (λ c. search needs) (λ c κs. search needs) (λ c. search needs) enum-told (λ c κs. search needs) returns (λ c. search needs) (λ c. search needs)
+    (λ c κs. search needs) (λ c. search needs) (λ c. search needs) (λ c. search needs) (λ c κs. search needs) returns-2 (λ c κs. search needs) returns-3)

@@ -1,5 +1,5 @@
 -- Where the matrix is finite the steps are judged, and else the old factor stands.
-use borrow.Author.Needs.{needs}
+use Rattle.float.proofs.Words.{needs}
 use Rattle.float.proofs.Judged.{stands, refuses}
 use Rattle.cholesky.specs.Factor.{factor3Of}
 use Rattle.cholesky.proofs.cholesky3x3.cholesky_3x3_explicit_factor.Statement.{statement}
@@ -16,12 +16,5 @@ unfolding factor3Of
 returns-2 c = rw (refuses _ _ _ _ (c .before .all-finite .ensures) (c .if1 .left))
 
 pub cholesky-3x3-explicit-factor-spec : {M : Type 1} → statement M
-cholesky-3x3-explicit-factor-spec =
-    tie.close
-    (tie.spec
-    (λ c. search needs)
-    (λ c κs. search needs)
-    (λ c κs. search needs)
-    (λ c κs. search needs)
-    returns
-    returns-2)
+cholesky-3x3-explicit-factor-spec = tie.close (tie.spec
+    (λ c. search needs) (λ c κs. search needs) (λ c κs. search needs) (λ c κs. search needs) returns returns-2)

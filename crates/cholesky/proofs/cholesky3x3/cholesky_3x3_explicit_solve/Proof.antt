@@ -1,7 +1,5 @@
 -- Both lengths passed, the numbers read one by one are the first three of b.
-use mathlib.Core.Path.{refl}
-use borrow.Author.Needs.{needs}
-use borrow.Author.Tests.{le-leb, lt-leb}
+use Rattle.float.proofs.Words.{refl, le-leb, lt-leb, needs}
 use Rattle.matrix.proofs.Tables.{tabulate-take}
 use Rattle.cholesky.specs.Solve.{solve3Of}
 use Rattle.cholesky.proofs.cholesky3x3.cholesky_3x3_explicit_solve.Statement.{statement}
@@ -25,15 +23,5 @@ returns-3 c =
     (rw (c .before .before .before .judged-solution .ensures) at (c .before .before .put3 .ensures))
 
 pub cholesky-3x3-explicit-solve-spec : {M : Type 1} → statement M
-cholesky-3x3-explicit-solve-spec =
-    tie.close
-    (tie.spec
-    returns
-    returns-2
-    (λ c. search needs)
-    (λ c. search needs)
-    (λ c. search needs)
-    (λ c κs. search needs)
-    (λ c κs. search needs)
-    (λ c. search needs)
-    returns-3)
+cholesky-3x3-explicit-solve-spec = tie.close (tie.spec
+    returns returns-2 (λ c. search needs) (λ c. search needs) (λ c. search needs) (λ c κs. search needs) (λ c κs. search needs) (λ c. search needs) returns-3)

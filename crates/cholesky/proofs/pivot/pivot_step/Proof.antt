@@ -1,8 +1,5 @@
 -- The test is the definition's, and the root is the root.
-use mathlib.Core.Path.{_≡_}
-use mathlib.Core.Bool.{true, false}
-use borrow.Author.Needs.{needs}
-use lib.Ieee.{le}
+use Rattle.float.proofs.Words.{_≡_, true, false, le, needs}
 use Rattle.float.specs.Width.{F}
 use Rattle.float.specs.Constants.{zeroF}
 use Rattle.cholesky.specs.Pivot.{pivotOf}

@@ -1,5 +1,5 @@
 -- Each case hands back its own number.
-use borrow.Author.Needs.{needs}
+use Rattle.float.proofs.Words.{needs}
 use Rattle.cholesky.proofs.pivot.refusal_of.Statement.{statement}
 use Rattle.cholesky.proofs.pivot.refusal_of.Tie as tie
 

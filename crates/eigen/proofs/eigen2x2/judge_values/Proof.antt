@@ -1,9 +1,8 @@
 -- Each return is one outcome of the test of the values.
-use mathlib.Core.Path.{sym, _∙_}
+use Rattle.float.proofs.Words.{sym, _∙_, needs}
 use Rattle.float.specs.Width.{F}
 use Rattle.float.proofs.Judged.{stands, refuses}
 use Rattle.eigen.specs.EigVals.{refusedValues2, values2Of}
-use borrow.Author.Needs.{needs}
 use Rattle.eigen.proofs.eigen2x2.judge_values.Statement.{statement}
 use Rattle.eigen.proofs.eigen2x2.judge_values.Tie as tie
 
@@ -19,11 +18,4 @@ returns-2 c =
     ∙ sym (refuses (refusedValues2 F) 7 v (values2Of v) (c .before .before .all-finite .ensures) (c .before .if1 .left))
 
 pub judge-values-spec : {M : Type 1} → statement M
-judge-values-spec =
-    tie.close
-    (tie.spec
-    (λ c. search needs)
-    (λ c κs. search needs)
-    returns
-    (λ c κs. search needs)
-    returns-2)
+judge-values-spec = tie.close (tie.spec (λ c. search needs) (λ c κs. search needs) returns (λ c κs. search needs) returns-2)

@@ -1,9 +1,8 @@
 -- Each return is one outcome of the test of the input; the answer past it is judged from the last state.
-use mathlib.Core.Path.{sym, _∙_}
+use Rattle.float.proofs.Words.{sym, _∙_, needs}
 use Rattle.float.specs.Width.{F}
 use Rattle.float.proofs.Judged.{stands, refuses}
 use Rattle.eigen.specs.Eigen3x3.{refusedEigen, endOf, eigenOf}
-use borrow.Author.Needs.{needs}
 use Rattle.eigen.proofs.eigen3x3.eigen_jacobi.Statement.{statement}
 use Rattle.eigen.proofs.eigen3x3.eigen_jacobi.Tie as tie
 
@@ -22,13 +21,5 @@ returns-2 c =
     c .refused .ensures ∙ sym (refuses (refusedEigen F) 5 a _ (t .all-finite .ensures) (c .before .if1 .left))
 
 pub eigen-jacobi-spec : {M : Type 1} → statement M
-eigen-jacobi-spec =
-    tie.close
-    (tie.spec
-    (λ c. search needs)
-    (λ c κs. search needs)
-    (λ c κs. search needs)
-    (λ c κs. search needs)
-    returns
-    (λ c κs. search needs)
-    returns-2)
+eigen-jacobi-spec = tie.close (tie.spec
+    (λ c. search needs) (λ c κs. search needs) (λ c κs. search needs) (λ c κs. search needs) returns (λ c κs. search needs) returns-2)

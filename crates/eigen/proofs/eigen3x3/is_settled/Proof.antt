@@ -1,7 +1,7 @@
 -- The test is that of the definition, of the pair that the definition takes.
 use Rattle.float.specs.Width.{F}
 use Rattle.eigen.proofs.Rounds.{tested}
-use borrow.Author.Needs.{needs}
+use Rattle.float.proofs.Words.{needs}
 use Rattle.eigen.proofs.eigen3x3.is_settled.Statement.{statement}
 use Rattle.eigen.proofs.eigen3x3.is_settled.Tie as tie
 

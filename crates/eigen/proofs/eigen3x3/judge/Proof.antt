@@ -1,9 +1,8 @@
 -- Each return is one outcome of the test of matrix and vectors.
-use mathlib.Core.Path.{sym, _∙_}
+use Rattle.float.proofs.Words.{sym, _∙_, needs}
 use Rattle.float.specs.Width.{F}
 use Rattle.float.proofs.Judged.{stands, refuses}
 use Rattle.eigen.specs.Eigen3x3.{ofWorking, refusedEigen, numbersOf, answerOf}
-use borrow.Author.Needs.{needs}
 use Rattle.eigen.proofs.eigen3x3.judge.Statement.{statement}
 use Rattle.eigen.proofs.eigen3x3.judge.Tie as tie
 
@@ -22,14 +21,5 @@ returns-2 c =
     c .refused .ensures ∙ sym (refuses (refusedEigen F) 7 (numbersOf s) (answerOf F s) e (c .before .if1 .left))
 
 pub judge-spec : {M : Type 1} → statement M
-judge-spec =
-    tie.close
-    (tie.spec
-    (λ c κs. search needs)
-    (λ c. search needs)
-    (λ c. search needs)
-    (λ c κs. search needs)
-    (λ c κs. search needs)
-    returns
-    (λ c κs. search needs)
-    returns-2)
+judge-spec = tie.close (tie.spec
+    (λ c κs. search needs) (λ c. search needs) (λ c. search needs) (λ c κs. search needs) (λ c κs. search needs) returns (λ c κs. search needs) returns-2)

@@ -1,9 +1,8 @@
 -- Each return is one outcome of the test of the matrix.
-use mathlib.Core.Path.{sym, _∙_}
+use Rattle.float.proofs.Words.{sym, _∙_, needs}
 use Rattle.float.specs.Width.{F}
 use Rattle.float.proofs.Judged.{stands, refuses}
 use Rattle.eigen.specs.EigVals.{ofBare, refusedValues, valuesOf}
-use borrow.Author.Needs.{needs}
 use Rattle.eigen.proofs.eigen3x3.judge_values.Statement.{statement}
 use Rattle.eigen.proofs.eigen3x3.judge_values.Tie as tie
 
@@ -21,16 +20,6 @@ returns-2 c =
     c .refused-values .ensures ∙ sym (refuses (refusedValues F) 7 (s .matrix) (valuesOf F s) e (c .before .if1 .left))
 
 pub judge-values-spec : {M : Type 1} → statement M
-judge-values-spec =
-    tie.close
-    (tie.spec
-    (λ c. search needs)
-    (λ c κs. search needs)
-    (λ c. search needs)
-    (λ c. search needs)
-    (λ c. search needs)
-    (λ c κs. search needs)
-    (λ c κs. search needs)
-    returns
-    (λ c κs. search needs)
-    returns-2)
+judge-values-spec = tie.close (tie.spec
+    (λ c. search needs) (λ c κs. search needs) (λ c. search needs) (λ c. search needs) (λ c. search needs) (λ c κs. search needs) (λ c κs. search needs) returns
+    (λ c κs. search needs) returns-2)

@@ -1,6 +1,6 @@
 -- The diagonal and the vectors are those of the state.
 use Rattle.eigen.specs.Eigen3x3.{rankedOf}
-use borrow.Author.Needs.{needs}
+use Rattle.float.proofs.Words.{needs}
 use Rattle.eigen.proofs.eigen3x3.rank.Statement.{statement}
 use Rattle.eigen.proofs.eigen3x3.rank.Tie as tie
 

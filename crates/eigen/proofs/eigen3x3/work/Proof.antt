@@ -1,8 +1,5 @@
 -- The invariant: what is left of the run, from the state at hand, leaves what the whole run leaves. The measure is the rotations left.
-use mathlib.Core.Path.{_≡_, sym, ap, _∙_}
-use mathlib.Core.Bool.{Bool}
-use Prim.Native.Nat.{_+_, _-_, _≤_}
-use native.Mathlib.Omega.{arith}
+use Rattle.float.proofs.Words.{_≡_, sym, ap, _∙_, Bool, _+_, _-_, _≤_, arith, needs}
 use Rattle.float.specs.Width.{F}
 use Rattle.matrix.specs.declared.square.Mat3.{Mat3}
 use Rattle.matrix.specs.declared.symmetric.Sym3.{Sym3}
@@ -10,7 +7,6 @@ use Rattle.jacobi.specs.declared.made.Made.{Made}
 use Rattle.jacobi.proofs.Run.{leaves, goes-once, used-up}
 use Rattle.eigen.specs.Eigen3x3.{State, working, settledOf, stepOf, runOf, lastOf}
 use Rattle.eigen.proofs.Rounds.{tested, next-state}
-use borrow.Author.Needs.{needs}
 use Rattle.eigen.proofs.eigen3x3.work.Statement.{statement}
 use Rattle.eigen.proofs.eigen3x3.work.Tie as tie
 
@@ -58,20 +54,6 @@ returns-2 c =
     ap working (used-up (stepOf F) done 25 (l .made .count) (state (l .b) (l .v) (l .made)) (omega arith) (l .inv .1))
 
 pub work-spec : {M : Type 1} → statement M
-work-spec =
-    tie.close
-    (tie.spec
-    Inv-loop
-    μ-loop
-    (λ c κs. search needs)
-    (λ c κs. search needs)
-    loop-holds
-    (λ c κs. search needs)
-    (λ c κs. search needs)
-    returns
-    (λ c κs. search needs)
-    (λ c κs. search needs)
-    (λ c. search needs)
-    (λ c. search needs)
-    loop-again
-    returns-2)
+work-spec = tie.close (tie.spec
+    Inv-loop μ-loop (λ c κs. search needs) (λ c κs. search needs) loop-holds (λ c κs. search needs) (λ c κs. search needs) returns (λ c κs. search needs)
+    (λ c κs. search needs) (λ c. search needs) (λ c. search needs) loop-again returns-2)

@@ -1,8 +1,5 @@
 -- The invariant: what is left of the run, from the state at hand, leaves what the whole run leaves. The measure is the rotations left.
-use mathlib.Core.Path.{_≡_, refl, sym, ap, _∙_}
-use mathlib.Core.Bool.{Bool}
-use Prim.Native.Nat.{_+_, _-_, _≤_}
-use native.Mathlib.Omega.{arith}
+use Rattle.float.proofs.Words.{_≡_, refl, sym, ap, _∙_, Bool, _+_, _-_, _≤_, arith, needs}
 use Rattle.float.specs.Width.{F}
 use Rattle.matrix.specs.declared.symmetric.Sym3.{Sym3}
 use Rattle.jacobi.specs.declared.made.Made.{Made}
@@ -10,7 +7,6 @@ use Rattle.jacobi.proofs.Run.{leaves, goes-once, used-up}
 use Rattle.eigen.specs.Eigen3x3.{settledOf}
 use Rattle.eigen.specs.EigVals.{BareState, bare, bareStepOf, bareRunOf, bareLastOf}
 use Rattle.eigen.proofs.Rounds.{tested, next-bare}
-use borrow.Author.Needs.{needs}
 use Rattle.eigen.proofs.eigen3x3.work_values.Statement.{statement}
 use Rattle.eigen.proofs.eigen3x3.work_values.Tie as tie
 
@@ -57,17 +53,6 @@ returns-2 c =
     ap bare (used-up (bareStepOf F) done 25 (l .made .count) (state (l .b) (l .made)) (omega arith) (l .inv .1))
 
 pub work-values-spec : {M : Type 1} → statement M
-work-values-spec =
-    tie.close
-    (tie.spec
-    Inv-loop
-    μ-loop
-    loop-holds
-    (λ c κs. search needs)
-    (λ c κs. search needs)
-    returns
-    (λ c κs. search needs)
-    (λ c. search needs)
-    (λ c. search needs)
-    loop-again
+work-values-spec = tie.close (tie.spec
+    Inv-loop μ-loop loop-holds (λ c κs. search needs) (λ c κs. search needs) returns (λ c κs. search needs) (λ c. search needs) (λ c. search needs) loop-again
     returns-2)

@@ -1,5 +1,5 @@
 -- The three magnitudes are those of the definition.
-use borrow.Author.Needs.{needs}
+use Rattle.float.proofs.Words.{needs}
 use Rattle.eigen.proofs.pairs.find_largest_off_diag.Statement.{statement}
 use Rattle.eigen.proofs.pairs.find_largest_off_diag.Tie as tie
 
@@ -7,14 +7,6 @@ returns : tie.Need-returns
 returns c = rw (c .largest .ensures, c .before .magnitude3 .ensures, c .before .before .magnitude2 .ensures, c .before .before .before .magnitude .ensures)
 
 pub find-largest-off-diag-spec : {M : Type 1} → statement M
-find-largest-off-diag-spec =
-    tie.close
-    (tie.spec
-    (λ c. search needs)
-    (λ c. search needs)
-    (λ c. search needs)
-    (λ c κs. search needs)
-    (λ c κs. search needs)
-    (λ c κs. search needs)
-    (λ c κs. search needs)
+find-largest-off-diag-spec = tie.close (tie.spec
+    (λ c. search needs) (λ c. search needs) (λ c. search needs) (λ c κs. search needs) (λ c κs. search needs) (λ c κs. search needs) (λ c κs. search needs)
     returns)

@@ -1,5 +1,5 @@
 -- The rotation is the chosen one, and what it makes of the matrix is what is applied.
-use borrow.Author.Needs.{needs}
+use Rattle.float.proofs.Words.{needs}
 use Rattle.eigen.proofs.pairs.rotate_pair.Statement.{statement}
 use Rattle.eigen.proofs.pairs.rotate_pair.Tie as tie
 

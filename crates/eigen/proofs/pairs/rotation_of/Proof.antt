@@ -1,5 +1,5 @@
 -- Each return is one pair, and the call there answers for it.
-use borrow.Author.Needs.{needs}
+use Rattle.float.proofs.Words.{needs}
 use Rattle.eigen.proofs.pairs.rotation_of.Statement.{statement}
 use Rattle.eigen.proofs.pairs.rotation_of.Tie as tie
 
@@ -13,21 +13,6 @@ returns-3 : tie.Need-returns-3
 returns-3 c = rw (c .before .enum-told3 .given .1) (c .compute-jacobi-rotation3 .ensures)
 
 pub rotation-of-spec : {M : Type 1} → statement M
-rotation-of-spec =
-    tie.close
-    (tie.spec
-    (λ c. search needs)
-    (λ c. search needs)
-    (λ c. search needs)
-    (λ c. search needs)
-    (λ c. search needs)
-    (λ c. search needs)
-    (λ c. search needs)
-    (λ c κs. search needs)
-    (λ c. search needs)
-    (λ c κs. search needs)
-    (λ c. search needs)
-    (λ c κs. search needs)
-    returns
-    returns-2
-    returns-3)
+rotation-of-spec = tie.close (tie.spec
+    (λ c. search needs) (λ c. search needs) (λ c. search needs) (λ c. search needs) (λ c. search needs) (λ c. search needs) (λ c. search needs)
+    (λ c κs. search needs) (λ c. search needs) (λ c κs. search needs) (λ c. search needs) (λ c κs. search needs) returns returns-2 returns-3)

@@ -1,7 +1,5 @@
 -- Each part stands behind those before it, and the last ends at the end.
-use mathlib.Core.Path.{sym, _∙_}
-use borrow.Author.Needs.{needs}
-use lib.Seq.{take-all}
+use Rattle.float.proofs.Words.{sym, _∙_, take-all, needs}
 use Rattle.exports.specs.Kernels.{eigenNumbers}
 use Rattle.exports.proofs.kernels.put_eigen.Statement.{statement}
 use Rattle.exports.proofs.kernels.put_eigen.Tie as tie

@@ -1,7 +1,5 @@
 -- Each part stands behind those before it, and the last ends at the end.
-use mathlib.Core.Path.{sym, _∙_}
-use borrow.Author.Needs.{needs}
-use lib.Seq.{take-all}
+use Rattle.float.proofs.Words.{sym, _∙_, take-all, needs}
 use Rattle.exports.specs.Kernels.{svdNumbers}
 use Rattle.exports.proofs.kernels.put_svd.Statement.{statement}
 use Rattle.exports.proofs.kernels.put_svd.Tie as tie
@@ -17,12 +15,4 @@ returns c =
     (sym (take-all 30 (c .before .before .put-mat33 .last .0) (search needs))) e₄
 
 pub put-svd-spec : {M : Type 1} → statement M
-put-svd-spec =
-    tie.close
-    (tie.spec
-    (λ c κs. search needs)
-    (λ c κs. search needs)
-    (λ c κs. search needs)
-    (λ c κs. search needs)
-    (λ c. search needs)
-    returns)
+put-svd-spec = tie.close (tie.spec (λ c κs. search needs) (λ c κs. search needs) (λ c κs. search needs) (λ c κs. search needs) (λ c. search needs) returns)

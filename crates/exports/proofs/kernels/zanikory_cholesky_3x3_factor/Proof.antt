@@ -1,9 +1,5 @@
 -- The lengths passed, out takes the factor that is handed back.
-use mathlib.Core.Path.{_≡_, refl}
-use native.Mathlib.Omega.{arith}
-use borrow.Author.Needs.{needs}
-use borrow.Author.Tests.{eq-eqb, ne-eqb}
-use lib.ListN.{length}
+use Rattle.float.proofs.Words.{_≡_, refl, arith, length, eq-eqb, ne-eqb, needs}
 use Rattle.float.specs.Width.{F}
 use Rattle.cholesky.specs.Factor.{factor3, factor3Of}
 use Rattle.cholesky.specs.declared.cholesky3x3.Factor3.{Factor3}
@@ -41,16 +37,6 @@ returns-4 c =
     (handed (λ (r : Factor3). r .code) (λ (r : Factor3). r .factor .«data») (c .before .before .put .ensures) e)
 
 pub zanikory-cholesky-3x3-factor-spec : {M : Type 1} → statement M
-zanikory-cholesky-3x3-factor-spec =
-    tie.close
-    (tie.spec
-    returns
-    returns-2
-    returns-3
-    (λ c κs. search needs)
-    (λ c κs. search needs)
-    (λ c κs. search needs)
-    (λ c. search needs)
-    put-requires
-    (λ c. search needs)
+zanikory-cholesky-3x3-factor-spec = tie.close (tie.spec
+    returns returns-2 returns-3 (λ c κs. search needs) (λ c κs. search needs) (λ c κs. search needs) (λ c. search needs) put-requires (λ c. search needs)
     returns-4)

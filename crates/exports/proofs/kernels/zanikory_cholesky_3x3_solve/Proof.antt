@@ -1,7 +1,5 @@
 -- Both lengths passed, the solution answers.
-use mathlib.Core.Path.{refl}
-use borrow.Author.Needs.{needs}
-use borrow.Author.Tests.{le-leb, lt-leb, eq-eqb, ne-eqb}
+use Rattle.float.proofs.Words.{refl, le-leb, lt-leb, eq-eqb, ne-eqb, needs}
 use Rattle.exports.specs.Kernels.{solve3Into}
 use Rattle.exports.proofs.kernels.zanikory_cholesky_3x3_solve.Statement.{statement}
 use Rattle.exports.proofs.kernels.zanikory_cholesky_3x3_solve.Tie as tie
@@ -22,12 +20,4 @@ returns-3 c =
     (rw (m .sym3-of .ensures) at (c .before .before .cholesky-3x3-explicit-solve .ensures))
 
 pub zanikory-cholesky-3x3-solve-spec : {M : Type 1} → statement M
-zanikory-cholesky-3x3-solve-spec =
-    tie.close
-    (tie.spec
-    returns
-    returns-2
-    (λ c κs. search needs)
-    (λ c κs. search needs)
-    (λ c. search needs)
-    returns-3)
+zanikory-cholesky-3x3-solve-spec = tie.close (tie.spec returns returns-2 (λ c κs. search needs) (λ c κs. search needs) (λ c. search needs) returns-3)

@@ -1,7 +1,5 @@
 -- Both lengths passed, the product answers.
-use mathlib.Core.Path.{refl}
-use borrow.Author.Needs.{needs}
-use borrow.Author.Tests.{le-leb, lt-leb, eq-eqb, ne-eqb}
+use Rattle.float.proofs.Words.{refl, le-leb, lt-leb, eq-eqb, ne-eqb, needs}
 use Rattle.exports.specs.Kernels.{packedMulOf}
 use Rattle.exports.proofs.kernels.zanikory_sym3_mul.Statement.{statement}
 use Rattle.exports.proofs.kernels.zanikory_sym3_mul.Tie as tie

@@ -1,9 +1,5 @@
 -- Both lengths passed, out takes the matrix that the move hands back.
-use mathlib.Core.Path.{_≡_, refl}
-use native.Mathlib.Omega.{arith}
-use borrow.Author.Needs.{needs}
-use borrow.Author.Tests.{eq-eqb, ne-eqb}
-use lib.ListN.{length}
+use Rattle.float.proofs.Words.{_≡_, refl, arith, length, eq-eqb, ne-eqb, needs}
 use Rattle.matrix.specs.declared.square.Mat2Answer.{Mat2Answer}
 use Rattle.exports.specs.Moves.{movedOf}
 use Rattle.exports.proofs.Handing.{handed}
@@ -32,14 +28,4 @@ returns-3 c =
     (handed (λ (r : Mat2Answer). r .code) (λ (r : Mat2Answer). r .matrix .«data») (c .before .before .put .ensures) e)
 
 pub move2-spec : {M : Type 1} → statement M
-move2-spec =
-    tie.close
-    (tie.spec
-    returns
-    returns-2
-    (λ c κs. search needs)
-    (λ c κs. search needs)
-    (λ c. search needs)
-    put-requires
-    (λ c. search needs)
-    returns-3)
+move2-spec = tie.close (tie.spec returns returns-2 (λ c κs. search needs) (λ c κs. search needs) (λ c. search needs) put-requires (λ c. search needs) returns-3)

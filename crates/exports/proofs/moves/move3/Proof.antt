@@ -1,9 +1,5 @@
 -- Both lengths passed, out takes the matrix that the move hands back.
-use mathlib.Core.Path.{_≡_, refl}
-use native.Mathlib.Omega.{arith}
-use borrow.Author.Needs.{needs}
-use borrow.Author.Tests.{eq-eqb, ne-eqb}
-use lib.ListN.{length}
+use Rattle.float.proofs.Words.{_≡_, refl, arith, length, eq-eqb, ne-eqb, needs}
 use Rattle.matrix.specs.declared.square.Mat3Answer.{Mat3Answer}
 use Rattle.exports.specs.Moves.{movedOf}
 use Rattle.exports.proofs.Handing.{handed}
@@ -32,14 +28,4 @@ returns-3 c =
     (handed (λ (r : Mat3Answer). r .code) (λ (r : Mat3Answer). r .matrix .«data») (c .before .before .put .ensures) e)
 
 pub move3-spec : {M : Type 1} → statement M
-move3-spec =
-    tie.close
-    (tie.spec
-    returns
-    returns-2
-    (λ c κs. search needs)
-    (λ c κs. search needs)
-    (λ c. search needs)
-    put-requires
-    (λ c. search needs)
-    returns-3)
+move3-spec = tie.close (tie.spec returns returns-2 (λ c κs. search needs) (λ c κs. search needs) (λ c. search needs) put-requires (λ c. search needs) returns-3)

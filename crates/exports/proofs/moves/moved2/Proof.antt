@@ -1,6 +1,5 @@
 -- Each return is one move, and the method there answers for it.
-use mathlib.Core.Path.{ap}
-use borrow.Author.Needs.{needs}
+use Rattle.float.proofs.Words.{ap, needs}
 use Rattle.matrix.specs.declared.square.Mat2.{Mat2}
 use Rattle.exports.proofs.moves.moved2.Statement.{statement}
 use Rattle.exports.proofs.moves.moved2.Tie as tie
@@ -24,21 +23,6 @@ returns-5 : tie.Need-returns-5
 returns-5 c = rw (c .before .enum-told2 .given .1) (ap (λ (m : Mat2). record { code = 0; matrix = m }) (c .set-identity .ensures))
 
 pub moved2-spec : {M : Type 1} → statement M
-moved2-spec =
-    tie.close
-    (tie.spec
-    enum-told
-    (λ c κs. search needs)
-    (λ c. search needs)
-    (λ c κs. search needs)
-    (λ c. search needs)
-    (λ c κs. search needs)
-    (λ c. search needs)
-    (λ c κs. search needs)
-    (λ c. search needs)
-    (λ c κs. search needs)
-    returns
-    returns-2
-    returns-3
-    returns-4
-    returns-5)
+moved2-spec = tie.close (tie.spec
+    enum-told (λ c κs. search needs) (λ c. search needs) (λ c κs. search needs) (λ c. search needs) (λ c κs. search needs) (λ c. search needs)
+    (λ c κs. search needs) (λ c. search needs) (λ c κs. search needs) returns returns-2 returns-3 returns-4 returns-5)

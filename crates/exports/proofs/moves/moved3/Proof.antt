@@ -1,6 +1,5 @@
 -- Each return is one move, and the method there answers for it.
-use mathlib.Core.Path.{ap}
-use borrow.Author.Needs.{needs}
+use Rattle.float.proofs.Words.{ap, needs}
 use Rattle.matrix.specs.declared.square.Mat3.{Mat3}
 use Rattle.exports.proofs.moves.moved3.Statement.{statement}
 use Rattle.exports.proofs.moves.moved3.Tie as tie
@@ -24,21 +23,6 @@ returns-5 : tie.Need-returns-5
 returns-5 c = rw (c .before .enum-told2 .given .1) (ap (λ (m : Mat3). record { code = 0; matrix = m }) (c .set-identity .ensures))
 
 pub moved3-spec : {M : Type 1} → statement M
-moved3-spec =
-    tie.close
-    (tie.spec
-    enum-told
-    (λ c κs. search needs)
-    (λ c. search needs)
-    (λ c κs. search needs)
-    (λ c. search needs)
-    (λ c κs. search needs)
-    (λ c. search needs)
-    (λ c κs. search needs)
-    (λ c. search needs)
-    (λ c κs. search needs)
-    returns
-    returns-2
-    returns-3
-    returns-4
-    returns-5)
+moved3-spec = tie.close (tie.spec
+    enum-told (λ c κs. search needs) (λ c. search needs) (λ c κs. search needs) (λ c. search needs) (λ c κs. search needs) (λ c. search needs)
+    (λ c κs. search needs) (λ c. search needs) (λ c κs. search needs) returns returns-2 returns-3 returns-4 returns-5)

@@ -1,10 +1,5 @@
 -- A store at the only place leaves the number alone.
-use mathlib.Core.Path.{_≡_, refl}
-use mathlib.Core.List.{List, [], _∷_}
-use native.Mathlib.Omega.{arith}
-use borrow.Author.Needs.{needs}
-use lib.ListN.{length, set}
-use lib.Ieee.{Float}
+use Rattle.float.proofs.Words.{_≡_, refl, List, [], _∷_, arith, length, set, Float, needs}
 use Rattle.exports.proofs.moves.put_entry.Statement.{statement}
 use Rattle.exports.proofs.moves.put_entry.Tie as tie
 
@@ -25,14 +20,5 @@ returns-2 c =
     rw (c .enum-told .given .1) (refl, only (c .before .before .args .out .now) _ (c .before .before .pre))
 
 pub put-entry-spec : {M : Type 1} → statement M
-put-entry-spec =
-    tie.close
-    (tie.spec
-    (λ c. search needs)
-    (λ c. search needs)
-    enum-told
-    (λ c. search needs)
-    (λ c. search needs)
-    returns
-    (λ c. search needs)
-    returns-2)
+put-entry-spec = tie.close (tie.spec
+    (λ c. search needs) (λ c. search needs) enum-told (λ c. search needs) (λ c. search needs) returns (λ c. search needs) returns-2)

@@ -1,7 +1,5 @@
 -- Both lengths passed, out takes the number that is read.
-use mathlib.Core.Path.{refl}
-use borrow.Author.Needs.{needs}
-use borrow.Author.Tests.{eq-eqb, ne-eqb}
+use Rattle.float.proofs.Words.{refl, eq-eqb, ne-eqb, needs}
 use Rattle.exports.specs.Moves.{squareReadOf}
 use Rattle.exports.proofs.moves.zanikory_mat2_index.Statement.{statement}
 use Rattle.exports.proofs.moves.zanikory_mat2_index.Tie as tie
@@ -22,13 +20,5 @@ returns-3 c =
     (rw (rw (m .mat2-of .ensures) at (c .before .before .before .index .ensures)) at (c .before .before .put-entry .ensures))
 
 pub zanikory-mat2-index-spec : {M : Type 1} → statement M
-zanikory-mat2-index-spec =
-    tie.close
-    (tie.spec
-    returns
-    returns-2
-    (λ c κs. search needs)
-    (λ c κs. search needs)
-    (λ c κs. search needs)
-    (λ c. search needs)
-    returns-3)
+zanikory-mat2-index-spec = tie.close (tie.spec
+    returns returns-2 (λ c κs. search needs) (λ c κs. search needs) (λ c κs. search needs) (λ c. search needs) returns-3)

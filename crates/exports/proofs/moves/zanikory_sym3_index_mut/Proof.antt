@@ -1,9 +1,5 @@
 -- Both lengths passed, out takes the copy that was written.
-use mathlib.Core.Path.{_≡_, refl}
-use native.Mathlib.Omega.{arith}
-use borrow.Author.Needs.{needs}
-use borrow.Author.Tests.{eq-eqb, ne-eqb}
-use lib.ListN.{length}
+use Rattle.float.proofs.Words.{_≡_, refl, arith, length, eq-eqb, ne-eqb, needs}
 use Rattle.matrix.specs.Places.{packedIndex}
 use Rattle.matrix.specs.Indexed.{writeOf, sym3Answer}
 use Rattle.matrix.specs.declared.symmetric.Sym3Answer.{Sym3Answer}
@@ -37,16 +33,6 @@ returns-3 c =
     (handed (λ (r : Sym3Answer). r .code) (λ (r : Sym3Answer). r .matrix .«data») (c .before .before .put .ensures) e)
 
 pub zanikory-sym3-index-mut-spec : {M : Type 1} → statement M
-zanikory-sym3-index-mut-spec =
-    tie.close
-    (tie.spec
-    returns
-    returns-2
-    (λ c κs. search needs)
-    (λ c κs. search needs)
-    (λ c κs. search needs)
-    (λ c κs. search needs)
-    (λ c. search needs)
-    put-requires
-    (λ c. search needs)
-    returns-3)
+zanikory-sym3-index-mut-spec = tie.close (tie.spec
+    returns returns-2 (λ c κs. search needs) (λ c κs. search needs) (λ c κs. search needs) (λ c κs. search needs) (λ c. search needs) put-requires
+    (λ c. search needs) returns-3)

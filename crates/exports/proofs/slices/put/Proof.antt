@@ -1,9 +1,5 @@
 -- From the first place on, to the last.
-use mathlib.Core.Path.{sym, _∙_}
-use Prim.Native.Nat.{_+_}
-use lib.ListN.{length}
-use lib.Seq.{take-all}
-use borrow.Author.Needs.{needs}
+use Rattle.float.proofs.Words.{sym, _∙_, _+_, length, take-all, needs}
 use Rattle.exports.proofs.slices.put.Statement.{statement}
 use Rattle.exports.proofs.slices.put.Tie as tie
 

@@ -1,13 +1,6 @@
 -- The invariant: up to the place reached stand the places before `at`, and then the numbers passed.
-use mathlib.Core.Path.{_≡_, refl}
-use mathlib.Core.List.{List, _++_, append-nil, append-assoc}
-use Prim.Native.Nat.{ℕ, suc, _+_, _-_, _≤_, _<_}
-use native.Mathlib.Nat.{add-zero}
-use native.Mathlib.Omega.{arith}
-use borrow.Author.Needs.{needs}
-use lib.ListN.{length, take, getD, set, length-set}
-use lib.Seq.{take-length, take-suc, take-suc-set}
-use lib.Ieee.{Float, nan}
+use Rattle.float.proofs.Words.{_≡_, refl, List, _++_, append-nil, append-assoc, ℕ, suc, _+_, _-_, _≤_, _<_, add-zero, arith, length, take, getD, set}
+use Rattle.float.proofs.Words.{length-set, take-length, take-suc, take-suc-set, Float, nan, needs}
 use Rattle.exports.proofs.slices.put_at.Statement.{statement}
 use Rattle.exports.proofs.slices.put_at.Tie as tie
 
@@ -41,19 +34,6 @@ returns c =
     (rw (e, take-length n) at (c .before .loop .inv .2))
 
 pub put-at-spec : {M : Type 1} → statement M
-put-at-spec =
-    tie.close
-    (tie.spec
-    Inv-loop
-    μ-loop
-    loop-holds
-    (λ c. search needs)
-    (λ c. search needs)
-    (λ c. search needs)
-    (λ c. search needs)
-    (λ c. search needs)
-    (λ c. search needs)
-    (λ c. search needs)
-    loop-again
-    (λ c. search needs)
-    returns)
+put-at-spec = tie.close (tie.spec
+    Inv-loop μ-loop loop-holds (λ c. search needs) (λ c. search needs) (λ c. search needs) (λ c. search needs) (λ c. search needs) (λ c. search needs)
+    (λ c. search needs) loop-again (λ c. search needs) returns)

@@ -1,7 +1,5 @@
 -- The type says how many numbers there are.
-use mathlib.Core.Path.{_≡_}
-use borrow.Author.Needs.{needs}
-use lib.ListN.{length}
+use Rattle.float.proofs.Words.{_≡_, length, needs}
 use Rattle.exports.proofs.slices.put_three.Statement.{statement}
 use Rattle.exports.proofs.slices.put_three.Tie as tie
 

@@ -1,6 +1,5 @@
 -- The array takes all of the slice.
-use mathlib.Core.Path.{ap}
-use borrow.Author.Needs.{needs}
+use Rattle.float.proofs.Words.{ap, needs}
 use Rattle.matrix.specs.Symmetric.{sym3}
 use Rattle.exports.proofs.slices.sym3_of.Statement.{statement}
 use Rattle.exports.proofs.slices.sym3_of.Tie as tie

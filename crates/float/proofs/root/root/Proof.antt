@@ -1,8 +1,6 @@
 -- The form on patterns, between a writing and a reading of the bits; what it answers is the nearest value by `correct`.
-use mathlib.Core.Path.{ap, _∙_}
-use borrow.Author.Needs.{needs}
+use Rattle.float.proofs.Words.{ap, _∙_, ofBits, needs}
 use denote.Floats.{passes}
-use lib.Ieee.{ofBits}
 use Rattle.float.specs.Width.{F}
 use Rattle.float.specs.Root.{rootOf, rootBitsOf}
 use Rattle.float.proofs.Patterns.{through-bits}

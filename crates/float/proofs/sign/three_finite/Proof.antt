@@ -1,6 +1,5 @@
 -- Where the first list passes the rest decides, and where it fails so does the whole.
-use mathlib.Core.Path.{sym, _∙_}
-use borrow.Author.Needs.{needs}
+use Rattle.float.proofs.Words.{sym, _∙_, needs}
 use Rattle.float.proofs.Finite.{append-passes, append-fails}
 use Rattle.float.proofs.sign.three_finite.Statement.{statement}
 use Rattle.float.proofs.sign.three_finite.Tie as tie

@@ -1,5 +1,5 @@
 -- Both comparisons are the definition's, in its order.
-use borrow.Author.Needs.{needs}
+use Rattle.float.proofs.Words.{needs}
 use Rattle.jacobi.specs.Pairs.{largestOf}
 use Rattle.jacobi.proofs.pairs.largest.Statement.{statement}
 use Rattle.jacobi.proofs.pairs.largest.Tie as tie

@@ -1,6 +1,5 @@
 -- The code's three tests are those of the definition, since `larger` and `magnitude` answer by its names; each return is one way through the choice.
-use mathlib.Core.Path.{_≡_, sym, ap, _∙_}
-use borrow.Author.Needs.{needs}
+use Rattle.float.proofs.Words.{_≡_, sym, ap, _∙_, needs}
 use Rattle.float.specs.Width.{F}
 use Rattle.jacobi.specs.Rotation.{diagonalOf, turnBy}
 use Rattle.jacobi.proofs.Chosen.{stays, tiny, level, turns}
@@ -40,16 +39,6 @@ returns-4 c =
     (rw (d, c .before .before .before .magnitude3 .ensures) at (c .before .before .if3 .left)))
 
 pub compute-jacobi-rotation-spec : {M : Type 1} → statement M
-compute-jacobi-rotation-spec =
-    tie.close
-    (tie.spec
-    returns
-    (λ c κs. search needs)
-    (λ c κs. search needs)
-    (λ c κs. search needs)
-    returns-2
-    (λ c κs. search needs)
-    returns-3
-    (λ c κs. search needs)
-    (λ c κs. search needs)
-    returns-4)
+compute-jacobi-rotation-spec = tie.close (tie.spec
+    returns (λ c κs. search needs) (λ c κs. search needs) (λ c κs. search needs) returns-2 (λ c κs. search needs) returns-3 (λ c κs. search needs)
+    (λ c κs. search needs) returns-4)

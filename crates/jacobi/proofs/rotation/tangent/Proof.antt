@@ -1,5 +1,5 @@
 -- Each return is one outcome of the test of theta's square, and the calls answer by the definition's names.
-use borrow.Author.Needs.{needs}
+use Rattle.float.proofs.Words.{needs}
 use Rattle.jacobi.specs.Rotation.{tangentOf}
 use Rattle.jacobi.proofs.rotation.tangent.Statement.{statement}
 use Rattle.jacobi.proofs.rotation.tangent.Tie as tie
@@ -20,12 +20,4 @@ unfolding tangentOf
 returns-2 c = simp (← c .before .is-finite .ensures, c .if1 .left)
 
 pub tangent-spec : {M : Type 1} → statement M
-tangent-spec =
-    tie.close
-    (tie.spec
-    (λ c κs. search needs)
-    (λ c κs. search needs)
-    (λ c κs. search needs)
-    (λ c κs. search needs)
-    returns
-    returns-2)
+tangent-spec = tie.close (tie.spec (λ c κs. search needs) (λ c κs. search needs) (λ c κs. search needs) (λ c κs. search needs) returns returns-2)

@@ -1,5 +1,5 @@
 -- The root is the one that the definition names.
-use borrow.Author.Needs.{needs}
+use Rattle.float.proofs.Words.{needs}
 use Rattle.jacobi.proofs.rotation.turned_by.Statement.{statement}
 use Rattle.jacobi.proofs.rotation.turned_by.Tie as tie
 

@@ -1,6 +1,5 @@
 -- The range is tested from both ends.
-use native.Mathlib.Omega.{arith}
-use borrow.Author.Tests.{le-leb, lt-leb}
+use Rattle.float.proofs.Words.{arith, le-leb, lt-leb}
 use Rattle.kinds.proofs.slots.is_known.Statement.{statement}
 use Rattle.kinds.proofs.slots.is_known.Tie as tie
 

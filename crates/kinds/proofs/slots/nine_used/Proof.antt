@@ -1,6 +1,5 @@
 -- Each arm has the number of its kind, and no other kind has one.
-use mathlib.Core.Path.{sym, ap}
-use borrow.Author.Tests.{ne-eqb}
+use Rattle.float.proofs.Words.{sym, ap, ne-eqb}
 use Rattle.kinds.specs.Slots.{nineUsed}
 use Rattle.kinds.proofs.slots.nine_used.Statement.{statement}
 use Rattle.kinds.proofs.slots.nine_used.Tie as tie
@@ -44,15 +43,4 @@ returns-9 c =
     )
 
 pub nine-used-spec : {M : Type 1} → statement M
-nine-used-spec =
-    tie.close
-    (tie.spec
-    returns
-    returns-2
-    returns-3
-    returns-4
-    returns-5
-    returns-6
-    returns-7
-    returns-8
-    returns-9)
+nine-used-spec = tie.close (tie.spec returns returns-2 returns-3 returns-4 returns-5 returns-6 returns-7 returns-8 returns-9)

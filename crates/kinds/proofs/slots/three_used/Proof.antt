@@ -1,6 +1,5 @@
 -- Each arm has the number of its kind, and no other kind has one.
-use mathlib.Core.Path.{sym, ap}
-use borrow.Author.Tests.{ne-eqb}
+use Rattle.float.proofs.Words.{sym, ap, ne-eqb}
 use Rattle.kinds.specs.Slots.{threeUsed}
 use Rattle.kinds.proofs.slots.three_used.Statement.{statement}
 use Rattle.kinds.proofs.slots.three_used.Tie as tie

@@ -1,5 +1,5 @@
 -- The mark is that of code 0.
-use borrow.Author.Tests.{eq-eqb, ne-eqb}
+use Rattle.float.proofs.Words.{eq-eqb, ne-eqb}
 use Rattle.kinds.proofs.work.done_mark.Statement.{statement}
 use Rattle.kinds.proofs.work.done_mark.Tie as tie
 

@@ -1,5 +1,5 @@
 -- Each number goes to its place, and the mark goes by the code.
-use borrow.Author.Needs.{needs}
+use Rattle.float.proofs.Words.{needs}
 use Rattle.kinds.proofs.work.from_solved2.Statement.{statement}
 use Rattle.kinds.proofs.work.from_solved2.Tie as tie
 
@@ -7,13 +7,5 @@ returns : tie.Need-returns
 returns c = rw (c .done-mark .ensures)
 
 pub from-solved2-spec : {M : Type 1} → statement M
-from-solved2-spec =
-    tie.close
-    (tie.spec
-    (λ c κs. search needs)
-    (λ c. search needs)
-    (λ c. search needs)
-    (λ c. search needs)
-    (λ c. search needs)
-    (λ c. search needs)
-    returns)
+from-solved2-spec = tie.close (tie.spec
+    (λ c κs. search needs) (λ c. search needs) (λ c. search needs) (λ c. search needs) (λ c. search needs) (λ c. search needs) returns)

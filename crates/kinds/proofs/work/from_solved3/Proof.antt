@@ -1,5 +1,5 @@
 -- Each number goes to its place, and the mark goes by the code.
-use borrow.Author.Needs.{needs}
+use Rattle.float.proofs.Words.{needs}
 use Rattle.kinds.proofs.work.from_solved3.Statement.{statement}
 use Rattle.kinds.proofs.work.from_solved3.Tie as tie
 
@@ -7,17 +7,6 @@ returns : tie.Need-returns
 returns c = rw (c .done-mark .ensures)
 
 pub from-solved3-spec : {M : Type 1} → statement M
-from-solved3-spec =
-    tie.close
-    (tie.spec
-    (λ c κs. search needs)
-    (λ c. search needs)
-    (λ c. search needs)
-    (λ c. search needs)
-    (λ c. search needs)
-    (λ c. search needs)
-    (λ c. search needs)
-    (λ c. search needs)
-    (λ c. search needs)
-    (λ c. search needs)
-    returns)
+from-solved3-spec = tie.close (tie.spec
+    (λ c κs. search needs) (λ c. search needs) (λ c. search needs) (λ c. search needs) (λ c. search needs) (λ c. search needs) (λ c. search needs)
+    (λ c. search needs) (λ c. search needs) (λ c. search needs) returns)

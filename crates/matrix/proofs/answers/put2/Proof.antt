@@ -1,8 +1,5 @@
 -- Stores from the first place on leave the numbers, and then what lay past them.
-use mathlib.Core.Path.{_≡_, refl}
-use borrow.Author.Needs.{needs}
-use borrow.Author.Tests.{le-leb, lt-leb, eq-eqb, ne-eqb}
-use lib.ListN.{length}
+use Rattle.float.proofs.Words.{_≡_, refl, length, le-leb, lt-leb, eq-eqb, ne-eqb, needs}
 use Rattle.matrix.specs.Answer.{putOf}
 use Rattle.matrix.proofs.Tables.{stored}
 use Rattle.matrix.proofs.answers.put2.Statement.{statement}
@@ -24,14 +21,4 @@ unfolding putOf
 returns-3 c = rw (le-leb 2 _ (c .before .if1 .left), ne-eqb _ _ (c .if2 .left)) (refl, refl)
 
 pub put2-spec : {M : Type 1} → statement M
-put2-spec =
-    tie.close
-    (tie.spec
-    returns
-    (λ c. search needs)
-    (λ c. search needs)
-    (λ c. search needs)
-    (λ c. search needs)
-    (λ c. search needs)
-    returns-2
-    returns-3)
+put2-spec = tie.close (tie.spec returns (λ c. search needs) (λ c. search needs) (λ c. search needs) (λ c. search needs) (λ c. search needs) returns-2 returns-3)

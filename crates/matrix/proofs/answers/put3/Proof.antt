@@ -1,9 +1,5 @@
 -- Stores from the first place on leave the numbers, and then what lay past them.
-use mathlib.Core.Path.{_≡_, refl}
-use native.Mathlib.Omega.{arith}
-use borrow.Author.Needs.{needs}
-use borrow.Author.Tests.{le-leb, lt-leb, eq-eqb, ne-eqb}
-use lib.ListN.{length, length-set}
+use Rattle.float.proofs.Words.{_≡_, refl, arith, length, length-set, le-leb, lt-leb, eq-eqb, ne-eqb, needs}
 use Rattle.matrix.specs.Answer.{putOf}
 use Rattle.matrix.proofs.Tables.{stored}
 use Rattle.matrix.proofs.answers.put3.Statement.{statement}
@@ -28,16 +24,6 @@ unfolding putOf
 returns-3 c = rw (le-leb 3 _ (c .before .if1 .left), ne-eqb _ _ (c .if2 .left)) (refl, refl)
 
 pub put3-spec : {M : Type 1} → statement M
-put3-spec =
-    tie.close
-    (tie.spec
-    returns
-    (λ c. search needs)
-    (λ c. search needs)
-    (λ c. search needs)
-    slice-write-y-2
-    (λ c. search needs)
-    (λ c. search needs)
-    (λ c. search needs)
-    returns-2
+put3-spec = tie.close (tie.spec
+    returns (λ c. search needs) (λ c. search needs) (λ c. search needs) slice-write-y-2 (λ c. search needs) (λ c. search needs) (λ c. search needs) returns-2
     returns-3)

@@ -1,5 +1,5 @@
 -- Three rows, each multiplied and added in turn.
-use borrow.Author.Needs.{needs}
+use Rattle.float.proofs.Words.{needs}
 use Rattle.matrix.proofs.core.quad.Statement.{statement}
 use Rattle.matrix.proofs.core.quad.Tie as tie
 
@@ -7,22 +7,7 @@ returns : tie.Need-returns
 returns c = rw (c .before .before .row .ensures, c .before .row2 .ensures, c .row3 .ensures)
 
 pub quad-spec : {M : Type 1} → statement M
-quad-spec =
-    tie.close
-    (tie.spec
-    (λ c. search needs)
-    (λ c. search needs)
-    (λ c. search needs)
-    (λ c. search needs)
-    (λ c κs. search needs)
-    (λ c. search needs)
-    (λ c. search needs)
-    (λ c. search needs)
-    (λ c. search needs)
-    (λ c κs. search needs)
-    (λ c. search needs)
-    (λ c. search needs)
-    (λ c. search needs)
-    (λ c. search needs)
-    (λ c κs. search needs)
-    returns)
+quad-spec = tie.close (tie.spec
+    (λ c. search needs) (λ c. search needs) (λ c. search needs) (λ c. search needs) (λ c κs. search needs) (λ c. search needs) (λ c. search needs)
+    (λ c. search needs) (λ c. search needs) (λ c κs. search needs) (λ c. search needs) (λ c. search needs) (λ c. search needs) (λ c. search needs)
+    (λ c κs. search needs) returns)

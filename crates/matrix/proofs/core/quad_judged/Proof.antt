@@ -1,5 +1,5 @@
 -- Where all numbers are finite the form is judged, and else refused.
-use borrow.Author.Needs.{needs}
+use Rattle.float.proofs.Words.{needs}
 use Rattle.float.proofs.Judged.{stands, refuses}
 use Rattle.matrix.specs.Arithmetic.{quadJudgedOf}
 use Rattle.matrix.proofs.core.quad_judged.Statement.{statement}
@@ -16,14 +16,5 @@ unfolding quadJudgedOf
 returns-2 c = rw (refuses _ _ _ _ (c .before .three-finite .ensures) (c .if1 .left))
 
 pub quad-judged-spec : {M : Type 1} → statement M
-quad-judged-spec =
-    tie.close
-    (tie.spec
-    (λ c. search needs)
-    (λ c. search needs)
-    (λ c. search needs)
-    (λ c κs. search needs)
-    (λ c κs. search needs)
-    (λ c κs. search needs)
-    returns
-    returns-2)
+quad-judged-spec = tie.close (tie.spec
+    (λ c. search needs) (λ c. search needs) (λ c. search needs) (λ c κs. search needs) (λ c κs. search needs) (λ c κs. search needs) returns returns-2)

@@ -1,6 +1,5 @@
 -- Past both tests the place is below 9, so nothing overflows on the way.
-use native.Mathlib.Nat.{mul-le-mul}
-use native.Mathlib.Omega.{arith}
+use Rattle.float.proofs.Words.{mul-le-mul, arith}
 use Rattle.matrix.proofs.Placing.{square-below}
 use Rattle.matrix.proofs.Answered.{within, row-outside, column-outside}
 use Rattle.matrix.proofs.square.square_place.Statement.{statement}

@@ -1,7 +1,5 @@
 -- Past both tests the place is below 6, so nothing overflows on the way; the last test tells the row from the column.
-use native.Mathlib.Omega.{arith}
-use borrow.Author.Needs.{needs}
-use borrow.Author.Tests.{lt-ltb, le-ltb}
+use Rattle.float.proofs.Words.{arith, lt-ltb, le-ltb, needs}
 use Rattle.matrix.proofs.Placing.{small}
 use Rattle.matrix.proofs.Answered.{within, row-outside, column-outside}
 use Rattle.matrix.proofs.symmetric.packed_place.Statement.{statement}

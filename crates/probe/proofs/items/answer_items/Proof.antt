@@ -1,9 +1,5 @@
 -- `probe::items::answer_items` is safe: from both places on there is room for all the items that are left, so for one.
-use borrow.Author.Needs.{needs}
-use native.Mathlib.Omega.{arith}
-use mathlib.Core.Path.{_≡_}
-use Prim.Native.Nat.{_+_, _*_, _≤_}
-use lib.ListN.{length}
+use Rattle.float.proofs.Words.{_≡_, _+_, _*_, _≤_, arith, length, needs}
 use Rattle.probe.proofs.Counted.{one-less}
 use Rattle.probe.proofs.items.answer_items.Statement.{statement}
 use Rattle.probe.proofs.items.answer_items.Tie as tie
@@ -34,21 +30,6 @@ loop-again c =
     search needs
 
 pub answer-items-spec : {M : Type 1} → statement M
-answer-items-spec =
-    tie.close
-    (tie.spec
-    Inv-loop
-    μ-loop
-    (λ c. search needs)
-    item-at-requires
-    (λ c κs. search needs)
-    put-item-requires
-    (λ c. search needs)
-    (λ c. search needs)
-    (λ c. search needs)
-    (λ c. search needs)
-    (λ c. search needs)
-    (λ c. search needs)
-    loop-again
-    (λ c. search needs)
-    (λ c. search needs))
+answer-items-spec = tie.close (tie.spec
+    Inv-loop μ-loop (λ c. search needs) item-at-requires (λ c κs. search needs) put-item-requires (λ c. search needs) (λ c. search needs) (λ c. search needs)
+    (λ c. search needs) (λ c. search needs) (λ c. search needs) loop-again (λ c. search needs) (λ c. search needs))

@@ -1,8 +1,5 @@
 -- `probe::items::item_at` is safe: byte k lies below the item's end, and its word below 40.
-use borrow.Author.Needs.{needs}
-use mathlib.Core.Path.{_≡_}
-use Prim.Native.Nat.{_*_, _≤_}
-use lib.ListN.{length}
+use Rattle.float.proofs.Words.{_≡_, _*_, _≤_, length, needs}
 use Rattle.probe.proofs.items.item_at.Statement.{statement}
 use Rattle.probe.proofs.items.item_at.Tie as tie
 
@@ -13,21 +10,6 @@ abbrev μ-loop : tie.MeasureT-loop
 μ-loop s at n words₀ k₀ words k = k
 
 pub item-at-spec : {M : Type 1} → statement M
-item-at-spec =
-    tie.close
-    (tie.spec
-    Inv-loop
-    μ-loop
-    (λ c. search needs)
-    (λ c. search needs)
-    (λ c. search needs)
-    (λ c. search needs)
-    (λ c. search needs)
-    (λ c. search needs)
-    (λ c. search needs)
-    (λ c κs. search needs)
-    (λ c. search needs)
-    (λ c. search needs)
-    (λ c. search needs)
-    (λ c. search needs)
-    (λ c. search needs))
+item-at-spec = tie.close (tie.spec
+    Inv-loop μ-loop (λ c. search needs) (λ c. search needs) (λ c. search needs) (λ c. search needs) (λ c. search needs) (λ c. search needs) (λ c. search needs)
+    (λ c κs. search needs) (λ c. search needs) (λ c. search needs) (λ c. search needs) (λ c. search needs) (λ c. search needs))

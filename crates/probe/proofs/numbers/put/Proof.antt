@@ -1,7 +1,5 @@
 -- `probe::numbers::put` is safe: number i goes to a word below 64.
-use borrow.Author.Needs.{needs}
-use Prim.Native.Nat.{_-_, _≤_}
-use lib.ListN.{length}
+use Rattle.float.proofs.Words.{_-_, _≤_, length, needs}
 use Rattle.probe.proofs.numbers.put.Statement.{statement}
 use Rattle.probe.proofs.numbers.put.Tie as tie
 
@@ -12,19 +10,6 @@ abbrev μ-loop : tie.MeasureT-loop
 μ-loop out₀ at numbers i₀ out i = length numbers - i
 
 pub put-spec : {M : Type 1} → statement M
-put-spec =
-    tie.close
-    (tie.spec
-    Inv-loop
-    μ-loop
-    (λ c. search needs)
-    (λ c. search needs)
-    (λ c. search needs)
-    (λ c κs. search needs)
-    (λ c. search needs)
-    (λ c. search needs)
-    (λ c. search needs)
-    (λ c. search needs)
-    (λ c. search needs)
-    (λ c. search needs)
-    (λ c. search needs))
+put-spec = tie.close (tie.spec
+    Inv-loop μ-loop (λ c. search needs) (λ c. search needs) (λ c. search needs) (λ c κs. search needs) (λ c. search needs) (λ c. search needs)
+    (λ c. search needs) (λ c. search needs) (λ c. search needs) (λ c. search needs) (λ c. search needs))

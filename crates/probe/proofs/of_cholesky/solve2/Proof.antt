@@ -1,7 +1,5 @@
 -- `probe::of_cholesky::solve2` is safe: at most eight places are lent.
-use borrow.Author.Needs.{needs}
-use native.Mathlib.Omega.{arith}
-use lib.ListN.{length-take}
+use Rattle.float.proofs.Words.{arith, length-take, needs}
 use Rattle.probe.proofs.of_cholesky.solve2.Statement.{statement}
 use Rattle.probe.proofs.of_cholesky.solve2.Tie as tie
 
@@ -13,18 +11,7 @@ slice-aggregate-cholesky-2x2-explicit-solve-2 :
 slice-aggregate-cholesky-2x2-explicit-solve-2 c = simp length-take (omega arith)
 
 pub solve2-spec : {M : Type 1} → statement M
-solve2-spec =
-    tie.close
-    (tie.spec
-    (λ c κs. search needs)
-    (λ c κs. search needs)
-    (λ c κs. search needs)
-    (λ c κs. search needs)
-    (λ c κs. search needs)
-    (λ c. search needs)
-    slice-aggregate-cholesky-2x2-explicit-solve
-    (λ c. search needs)
-    slice-aggregate-cholesky-2x2-explicit-solve-2
-    (λ c κs. search needs)
-    (λ c κs. search needs)
+solve2-spec = tie.close (tie.spec
+    (λ c κs. search needs) (λ c κs. search needs) (λ c κs. search needs) (λ c κs. search needs) (λ c κs. search needs) (λ c. search needs)
+    slice-aggregate-cholesky-2x2-explicit-solve (λ c. search needs) slice-aggregate-cholesky-2x2-explicit-solve-2 (λ c κs. search needs) (λ c κs. search needs)
     (λ c. search needs))

@@ -1,7 +1,5 @@
 -- `probe::of_matrix::mul_sym3` is safe: at most eight places are lent.
-use borrow.Author.Needs.{needs}
-use native.Mathlib.Omega.{arith}
-use lib.ListN.{length-take}
+use Rattle.float.proofs.Words.{arith, length-take, needs}
 use Rattle.probe.proofs.of_matrix.mul_sym3.Statement.{statement}
 use Rattle.probe.proofs.of_matrix.mul_sym3.Tie as tie
 
@@ -12,18 +10,6 @@ slice-aggregate-mul-2 : tie.Need-slice-aggregate-mul-2
 slice-aggregate-mul-2 c = simp length-take (omega arith)
 
 pub mul-sym3-spec : {M : Type 1} → statement M
-mul-sym3-spec =
-    tie.close
-    (tie.spec
-    (λ c κs. search needs)
-    (λ c κs. search needs)
-    (λ c κs. search needs)
-    (λ c κs. search needs)
-    (λ c κs. search needs)
-    (λ c. search needs)
-    slice-aggregate-mul
-    (λ c. search needs)
-    slice-aggregate-mul-2
-    (λ c κs. search needs)
-    (λ c κs. search needs)
-    (λ c. search needs))
+mul-sym3-spec = tie.close (tie.spec
+    (λ c κs. search needs) (λ c κs. search needs) (λ c κs. search needs) (λ c κs. search needs) (λ c κs. search needs) (λ c. search needs) slice-aggregate-mul
+    (λ c. search needs) slice-aggregate-mul-2 (λ c κs. search needs) (λ c κs. search needs) (λ c. search needs))

@@ -1,7 +1,5 @@
 -- `probe::of_matrix::quad_form` is safe: at most eight places are lent.
-use borrow.Author.Needs.{needs}
-use native.Mathlib.Omega.{arith}
-use lib.ListN.{length-take}
+use Rattle.float.proofs.Words.{arith, length-take, needs}
 use Rattle.probe.proofs.of_matrix.quad_form.Statement.{statement}
 use Rattle.probe.proofs.of_matrix.quad_form.Tie as tie
 
@@ -12,18 +10,6 @@ slice-aggregate-quad-form-2 : tie.Need-slice-aggregate-quad-form-2
 slice-aggregate-quad-form-2 c = simp length-take (omega arith)
 
 pub quad-form-spec : {M : Type 1} → statement M
-quad-form-spec =
-    tie.close
-    (tie.spec
-    (λ c κs. search needs)
-    (λ c κs. search needs)
-    (λ c κs. search needs)
-    (λ c κs. search needs)
-    (λ c κs. search needs)
-    (λ c. search needs)
-    slice-aggregate-quad-form
-    (λ c. search needs)
-    slice-aggregate-quad-form-2
-    (λ c κs. search needs)
-    (λ c κs. search needs)
-    (λ c. search needs))
+quad-form-spec = tie.close (tie.spec
+    (λ c κs. search needs) (λ c κs. search needs) (λ c κs. search needs) (λ c κs. search needs) (λ c κs. search needs) (λ c. search needs)
+    slice-aggregate-quad-form (λ c. search needs) slice-aggregate-quad-form-2 (λ c κs. search needs) (λ c κs. search needs) (λ c. search needs))

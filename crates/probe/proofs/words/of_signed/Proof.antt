@@ -1,11 +1,5 @@
 -- `probe::words::of_signed` is safe: below 0 it works on -1 - x, which is a natural number.
-use borrow.Author.Needs.{needs}
-use mathlib.Core.Path.{subst⁻¹}
-use Prim.Native.Nat.{_≤_}
-use native.Mathlib.Nat.{lt-of-lt-of-le}
-use native.Mathlib.Omega.{arith}
-use lib.Dec.{T, lit≤}
-use lib.IntN.{ℤ, natAbs}
+use Rattle.float.proofs.Words.{subst⁻¹, _≤_, lt-of-lt-of-le, arith, T, lit≤, ℤ, natAbs, needs}
 use lib.Signed.{nonNeg}
 use mir.Syntax.{w64}
 use mir.Val.{SFits, Fits, toZ, ofZ}

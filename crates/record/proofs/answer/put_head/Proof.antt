@@ -1,10 +1,5 @@
 -- Each round copies one byte more.
-use borrow.Author.Needs.{needs}
-use mathlib.Core.Path.{_≡_, refl, _∙_}
-use Prim.Native.Nat.{_-_, _≤_}
-use native.Mathlib.Omega.{arith}
-use lib.ListN.{length, take, length-set}
-use lib.Seq.{take-all}
+use Rattle.float.proofs.Words.{_≡_, refl, _∙_, _-_, _≤_, arith, length, take, length-set, take-all, needs}
 use Rattle.record.proofs.Parts.{copied}
 use Rattle.record.proofs.answer.put_head.Statement.{statement}
 use Rattle.record.proofs.answer.put_head.Tie as tie
@@ -34,16 +29,5 @@ returns c =
     (rw e at (l .inv .2)) ∙ take-all 8 (a .t2) (omega arith)
 
 pub put-head-spec : {M : Type 1} → statement M
-put-head-spec =
-    tie.close
-    (tie.spec
-    Inv-loop
-    μ-loop
-    loop-holds
-    (λ c. search needs)
-    (λ c. search needs)
-    (λ c. search needs)
-    (λ c. search needs)
-    loop-again
-    (λ c. search needs)
-    returns)
+put-head-spec = tie.close (tie.spec
+    Inv-loop μ-loop loop-holds (λ c. search needs) (λ c. search needs) (λ c. search needs) (λ c. search needs) loop-again (λ c. search needs) returns)

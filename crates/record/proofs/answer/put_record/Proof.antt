@@ -1,8 +1,5 @@
 -- The head and the three groups of numbers are written one after the other, and fill the slice.
-use borrow.Author.Needs.{needs}
-use mathlib.Core.Path.{_≡_}
-use native.Mathlib.Omega.{arith}
-use lib.ListN.{length}
+use Rattle.float.proofs.Words.{_≡_, arith, length, needs}
 use Rattle.float.specs.Width.{F}
 use Rattle.record.specs.Layout.{numbersAt, placeOf, answerSize}
 use Rattle.record.proofs.Records.{record-of-parts}
@@ -50,19 +47,6 @@ returns c =
     (omega (arith, same-length c, start .pre))
 
 pub put-record-spec : {M : Type 1} → statement M
-put-record-spec =
-    tie.close
-    (tie.spec
-    (λ c. search needs)
-    (λ c. search needs)
-    (λ c. search needs)
-    (λ c. search needs)
-    (λ c κs. search needs)
-    slice-aggregate-put-numbers
-    put-numbers-requires
-    slice-aggregate-put-numbers-2
-    put-numbers-requires-2
-    slice-aggregate-put-numbers-3
-    put-numbers-requires-3
-    same-length
-    returns)
+put-record-spec = tie.close (tie.spec
+    (λ c. search needs) (λ c. search needs) (λ c. search needs) (λ c. search needs) (λ c κs. search needs) slice-aggregate-put-numbers put-numbers-requires
+    slice-aggregate-put-numbers-2 put-numbers-requires-2 slice-aggregate-put-numbers-3 put-numbers-requires-3 same-length returns)

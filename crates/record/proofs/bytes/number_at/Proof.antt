@@ -1,7 +1,5 @@
 -- The number of the word there.
-use borrow.Author.Needs.{needs}
-use mathlib.Core.Path.{ap, _∙_}
-use lib.Ieee.{ofBits}
+use Rattle.float.proofs.Words.{ap, _∙_, ofBits, needs}
 use Rattle.float.specs.Width.{F}
 use Rattle.record.proofs.bytes.number_at.Statement.{statement}
 use Rattle.record.proofs.bytes.number_at.Tie as tie

@@ -1,12 +1,5 @@
 -- Each round writes the bytes of one number more.
-use borrow.Author.Needs.{needs}
-use mathlib.Core.Path.{_≡_, refl, sym, ap, _∙_}
-use mathlib.Core.List.{_++_, append-nil}
-use Prim.Native.Nat.{ℕ, _+_, _-_, _*_, _≤_}
-use native.Mathlib.Omega.{arith}
-use native.Mathlib.Nat.{add-zero}
-use lib.ListN.{length, take}
-use lib.Seq.{take-length}
+use Rattle.float.proofs.Words.{_≡_, refl, sym, ap, _∙_, _++_, append-nil, ℕ, _+_, _-_, _*_, _≤_, add-zero, arith, length, take, take-length, needs}
 use Rattle.float.specs.Width.{F}
 use Rattle.record.specs.Layout.{numberBytes}
 use Rattle.record.specs.Bytes.{bytesOf, numberBytesOf}
@@ -46,20 +39,6 @@ returns c =
     (rw (e, take-length) at (l .inv .2))
 
 pub put-numbers-spec : {M : Type 1} → statement M
-put-numbers-spec =
-    tie.close
-    (tie.spec
-    Inv-loop
-    μ-loop
-    loop-holds
-    (λ c. search needs)
-    (λ c. search needs)
-    (λ c. search needs)
-    (λ c. search needs)
-    (λ c κs. search needs)
-    (λ c κs. search needs)
-    (λ c. search needs)
-    (λ c. search needs)
-    loop-again
-    (λ c. search needs)
-    returns)
+put-numbers-spec = tie.close (tie.spec
+    Inv-loop μ-loop loop-holds (λ c. search needs) (λ c. search needs) (λ c. search needs) (λ c. search needs) (λ c κs. search needs) (λ c κs. search needs)
+    (λ c. search needs) (λ c. search needs) loop-again (λ c. search needs) returns)

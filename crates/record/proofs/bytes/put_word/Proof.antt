@@ -1,11 +1,5 @@
 -- What is written, with the bytes of what is left of the word behind it, stays the same in each round.
-use borrow.Author.Needs.{needs}
-use mathlib.Core.Path.{_≡_, refl, sym, ap, _∙_}
-use mathlib.Core.List.{_++_, append-nil}
-use Prim.Native.Nat.{ℕ, _+_, _-_, _≤_}
-use native.Mathlib.Omega.{arith}
-use native.Mathlib.Nat.{add-zero}
-use lib.ListN.{length, take, length-set}
+use Rattle.float.proofs.Words.{_≡_, refl, sym, ap, _∙_, _++_, append-nil, ℕ, _+_, _-_, _≤_, add-zero, arith, length, take, length-set, needs}
 use Rattle.float.specs.Width.{F}
 use Rattle.record.specs.Layout.{numberBytes}
 use Rattle.record.specs.Bytes.{bytesOf}
@@ -43,17 +37,6 @@ returns c =
     sym (append-nil (take (a .at + numberBytes F) (l .out))) ∙ (rw e at (l .inv .2))
 
 pub put-word-spec : {M : Type 1} → statement M
-put-word-spec =
-    tie.close
-    (tie.spec
-    Inv-loop
-    μ-loop
-    loop-holds
-    (λ c. search needs)
-    (λ c. search needs)
-    (λ c. search needs)
-    (λ c. search needs)
-    (λ c. search needs)
-    loop-again
-    (λ c. search needs)
-    returns)
+put-word-spec = tie.close (tie.spec
+    Inv-loop μ-loop loop-holds (λ c. search needs) (λ c. search needs) (λ c. search needs) (λ c. search needs) (λ c. search needs) loop-again
+    (λ c. search needs) returns)

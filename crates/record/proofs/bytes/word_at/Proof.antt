@@ -1,9 +1,5 @@
 -- The bytes are taken from the last to the first: the word so far is that of the bytes passed, and each adds one in front.
-use borrow.Author.Needs.{needs}
-use mathlib.Core.Path.{_≡_, refl, _∙_, ap}
-use Prim.Native.Nat.{ℕ, _+_, _-_, _^_, _≤_, _<_}
-use native.Mathlib.Omega.{arith}
-use native.Mathlib.Nat.{add-zero}
+use Rattle.float.proofs.Words.{_≡_, refl, _∙_, ap, ℕ, _+_, _-_, _^_, _≤_, _<_, add-zero, arith, needs}
 use Rattle.float.specs.Width.{F}
 use Rattle.record.specs.Layout.{numberBytes}
 use Rattle.record.specs.Bytes.{wordOf, part}
@@ -55,18 +51,6 @@ returns c =
     ∙ ap (λ (k : ℕ). wordOf (part k (numberBytes F) (a .s .now))) (add-zero (a .at))
 
 pub word-at-spec : {M : Type 1} → statement M
-word-at-spec =
-    tie.close
-    (tie.spec
-    Inv-loop
-    μ-loop
-    loop-holds
-    (λ c. search needs)
-    mul-w
-    (λ c. search needs)
-    (λ c. search needs)
-    (λ c κs. search needs)
-    add-w
-    (λ c. search needs)
-    loop-again
+word-at-spec = tie.close (tie.spec
+    Inv-loop μ-loop loop-holds (λ c. search needs) mul-w (λ c. search needs) (λ c. search needs) (λ c κs. search needs) add-w (λ c. search needs) loop-again
     returns)

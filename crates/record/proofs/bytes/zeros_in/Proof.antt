@@ -1,10 +1,5 @@
 -- The invariant: all bytes are zero exactly where those taken in have no bit and those from i on are zero.
-use borrow.Author.Needs.{needs}
-use mathlib.Core.Path.{_≡_, refl, sym, ap, _∙_}
-use mathlib.Core.Bool.{Bool, _&&_, and-true}
-use Prim.Native.Nat.{ℕ, _-_, _≤_}
-use native.Mathlib.Omega.{arith}
-use lib.Dec.{eqb}
+use Rattle.float.proofs.Words.{_≡_, refl, sym, ap, _∙_, Bool, _&&_, and-true, ℕ, _-_, _≤_, arith, eqb, needs}
 use Rattle.record.specs.Bytes.{zeroFrom}
 use Rattle.record.proofs.Zeros.{taken-in, none-left}
 use Rattle.record.proofs.bytes.zeros_in.Statement.{statement}

@@ -1,7 +1,5 @@
 -- The test of the part is the test of the first n.
-use borrow.Author.Needs.{needs}
-use mathlib.Core.Path.{sym}
-use lib.Seq.{length-take-le}
+use Rattle.float.proofs.Words.{sym, length-take-le, needs}
 use Rattle.record.proofs.request.first_finite.Statement.{statement}
 use Rattle.record.proofs.request.first_finite.Tie as tie
 

@@ -1,6 +1,5 @@
 -- The size is asked first.
-use borrow.Author.Needs.{needs}
-use borrow.Author.Tests.{eq-eqb, ne-eqb}
+use Rattle.float.proofs.Words.{eq-eqb, ne-eqb, needs}
 use Rattle.float.specs.Width.{F}
 use Rattle.record.specs.Layout.{requestSize}
 use Rattle.record.specs.Request.{sizedFormOf}

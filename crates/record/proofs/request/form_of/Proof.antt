@@ -1,6 +1,5 @@
 -- The kind is asked first, and then the zeros.
-use borrow.Author.Needs.{needs}
-use mathlib.Core.Path.{sym, _∙_}
+use Rattle.float.proofs.Words.{sym, _∙_, needs}
 use Rattle.record.specs.Request.{formOf}
 use Rattle.record.proofs.request.form_of.Statement.{statement}
 use Rattle.record.proofs.request.form_of.Tie as tie
@@ -22,12 +21,4 @@ unfolding formOf
 returns-3 c = rw (sym (c .before .is-known .ensures) ∙ c .if1 .left)
 
 pub form-of-spec : {M : Type 1} → statement M
-form-of-spec =
-    tie.close
-    (tie.spec
-    (λ c. search needs)
-    (λ c κs. search needs)
-    (λ c κs. search needs)
-    returns
-    returns-2
-    returns-3)
+form-of-spec = tie.close (tie.spec (λ c. search needs) (λ c κs. search needs) (λ c κs. search needs) returns returns-2 returns-3)

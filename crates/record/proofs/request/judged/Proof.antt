@@ -1,8 +1,5 @@
 -- A form that is not 0 is the answer; after it the finite test decides, over the first of all the numbers.
-use borrow.Author.Needs.{needs}
-use borrow.Author.Tests.{eq-eqb, ne-eqb}
-use mathlib.Core.Path.{_≡_, sym, _∙_}
-use mathlib.Core.Bool.{true, false}
+use Rattle.float.proofs.Words.{_≡_, sym, _∙_, true, false, eq-eqb, ne-eqb, needs}
 use Rattle.float.specs.Width.{F}
 use Rattle.record.specs.Request.{kindOf, usedFinite, judgedOf}
 use Rattle.record.proofs.Used.{used-first}
@@ -35,17 +32,6 @@ returns-3 c =
     rw (← numbers .before .before .before .before .form-of .ensures, eq-eqb _ 0 (numbers .before .before .before .if1 .left), used) (c .refused2 .ensures)
 
 pub judged-spec : {M : Type 1} → statement M
-judged-spec =
-    tie.close
-    (tie.spec
-    (λ c κs. search needs)
-    (λ c κs. search needs)
-    returns
-    (λ c. search needs)
-    (λ c κs. search needs)
-    (λ c κs. search needs)
-    (λ c κs. search needs)
-    (λ c κs. search needs)
-    returns-2
-    (λ c κs. search needs)
-    returns-3)
+judged-spec = tie.close (tie.spec
+    (λ c κs. search needs) (λ c κs. search needs) returns (λ c. search needs) (λ c κs. search needs) (λ c κs. search needs) (λ c κs. search needs)
+    (λ c κs. search needs) returns-2 (λ c κs. search needs) returns-3)

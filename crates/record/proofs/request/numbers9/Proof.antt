@@ -1,5 +1,5 @@
 -- Each number is read at its place.
-use borrow.Author.Needs.{needs}
+use Rattle.float.proofs.Words.{needs}
 use Rattle.record.proofs.request.numbers9.Statement.{statement}
 use Rattle.record.proofs.request.numbers9.Tie as tie
 
@@ -7,16 +7,6 @@ returns : tie.Need-returns
 returns c = cc
 
 pub numbers9-spec : {M : Type 1} → statement M
-numbers9-spec =
-    tie.close
-    (tie.spec
-    (λ c κs. search needs)
-    (λ c κs. search needs)
-    (λ c κs. search needs)
-    (λ c κs. search needs)
-    (λ c κs. search needs)
-    (λ c κs. search needs)
-    (λ c κs. search needs)
-    (λ c κs. search needs)
-    (λ c κs. search needs)
-    returns)
+numbers9-spec = tie.close (tie.spec
+    (λ c κs. search needs) (λ c κs. search needs) (λ c κs. search needs) (λ c κs. search needs) (λ c κs. search needs) (λ c κs. search needs)
+    (λ c κs. search needs) (λ c κs. search needs) (λ c κs. search needs) returns)

@@ -1,9 +1,5 @@
 -- The three tests one after the other; a kind uses at most nine numbers and three, so that each lies in the request.
-use borrow.Author.Needs.{needs}
-use mathlib.Core.Path.{_≡_, sym, ap, _∙_}
-use mathlib.Core.Bool.{true, false}
-use Prim.Native.Nat.{ℕ, _≤_}
-use native.Mathlib.Omega.{arith}
+use Rattle.float.proofs.Words.{_≡_, sym, ap, _∙_, true, false, ℕ, _≤_, arith, needs}
 use Rattle.float.specs.Width.{F}
 use Rattle.kinds.specs.Slots.{nineUsed}
 use Rattle.record.specs.Layout.{wayAt, nineAt, threeAt, placeOf, requestSize}
@@ -63,18 +59,6 @@ returns-3 : tie.Need-returns-3
 returns-3 c = rw (sym (c .before .zeros-in .ensures) ∙ c .if1 .left)
 
 pub unused-zero-spec : {M : Type 1} → statement M
-unused-zero-spec =
-    tie.close
-    (tie.spec
-    (λ c κs. search needs)
-    (λ c κs. search needs)
-    (λ c κs. search needs)
-    mul-zeros-in
-    add-zeros-in
-    zeros-in-requires-2
-    mul-zeros-in-2
-    add-zeros-in-2
-    zeros-in-requires-3
-    returns
-    returns-2
-    returns-3)
+unused-zero-spec = tie.close (tie.spec
+    (λ c κs. search needs) (λ c κs. search needs) (λ c κs. search needs) mul-zeros-in add-zeros-in zeros-in-requires-2 mul-zeros-in-2 add-zeros-in-2
+    zeros-in-requires-3 returns returns-2 returns-3)

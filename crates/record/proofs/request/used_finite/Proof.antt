@@ -1,10 +1,5 @@
 -- The two tests one after the other; a kind uses at most nine numbers and three.
-use borrow.Author.Needs.{needs}
-use mathlib.Core.Path.{_≡_, sym, ap, _∙_}
-use mathlib.Core.Bool.{true, false}
-use Prim.Native.Nat.{ℕ}
-use native.Mathlib.Omega.{arith}
-use lib.ListN.{take}
+use Rattle.float.proofs.Words.{_≡_, sym, ap, _∙_, true, false, ℕ, arith, take, needs}
 use Rattle.float.specs.Sign.{allFinite}
 use Rattle.kinds.specs.Slots.{nineUsed}
 use Rattle.kinds.proofs.Most.{nine-most, three-most}
@@ -44,14 +39,6 @@ returns-2 c =
     rw nine
 
 pub used-finite-spec : {M : Type 1} → statement M
-used-finite-spec =
-    tie.close
-    (tie.spec
-    slice-aggregate-first-finite
-    (λ c κs. search needs)
-    first-finite-requires
-    slice-aggregate-first-finite-2
-    (λ c κs. search needs)
-    first-finite-requires-2
-    returns
-    returns-2)
+used-finite-spec = tie.close (tie.spec
+    slice-aggregate-first-finite (λ c κs. search needs) first-finite-requires slice-aggregate-first-finite-2 (λ c κs. search needs) first-finite-requires-2
+    returns returns-2)

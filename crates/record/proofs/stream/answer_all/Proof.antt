@@ -1,9 +1,5 @@
 -- Each round answers one request more, and what lies behind the answers stays.
-use borrow.Author.Needs.{needs}
-use mathlib.Core.Path.{_≡_, refl, sym, _∙_}
-use Prim.Native.Nat.{_-_, _*_, _≤_}
-use native.Mathlib.Omega.{arith}
-use lib.ListN.{length, take, drop, take-append-drop}
+use Rattle.float.proofs.Words.{_≡_, refl, sym, _∙_, _-_, _*_, _≤_, arith, length, take, drop, take-append-drop, needs}
 use Rattle.float.specs.Width.{F}
 use Rattle.record.specs.Layout.{answerSize}
 use Rattle.record.specs.Stream.{answersOf, streamOf}
@@ -48,16 +44,5 @@ returns c =
     (n .ensures, sym (take-append-drop (answerSize F * l .i) (l .answers)) ∙ (rw (l .inv .2, l .inv .3, e, n .ensures)))
 
 pub answer-all-spec : {M : Type 1} → statement M
-answer-all-spec =
-    tie.close
-    (tie.spec
-    Inv-loop
-    μ-loop
-    (λ c κs. search needs)
-    loop-holds
-    answer-one-requires
-    (λ c. search needs)
-    (λ c. search needs)
-    loop-again
-    (λ c. search needs)
-    returns)
+answer-all-spec = tie.close (tie.spec
+    Inv-loop μ-loop (λ c κs. search needs) loop-holds answer-one-requires (λ c. search needs) (λ c. search needs) loop-again (λ c. search needs) returns)

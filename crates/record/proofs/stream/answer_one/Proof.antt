@@ -1,10 +1,5 @@
 -- The step is made on the request and on the place of its answer; what lies before and behind stays.
-use borrow.Author.Needs.{needs}
-use mathlib.Core.Path.{_≡_, ap, _∙_}
-use Prim.Native.Nat.{ℕ, _+_, _-_, _*_}
-use native.Mathlib.Omega.{arith}
-use lib.ListN.{length, take, drop, length-take, length-drop}
-use lib.Seq.{drop-drop}
+use Rattle.float.proofs.Words.{_≡_, ap, _∙_, ℕ, _+_, _-_, _*_, arith, length, take, drop, length-take, length-drop, drop-drop, needs}
 use Rattle.float.specs.Width.{F}
 use Rattle.record.specs.Layout.{requestSize, answerSize}
 use Rattle.record.specs.Answer.{answeredOf}
@@ -33,19 +28,6 @@ returns c =
     )
 
 pub answer-one-spec : {M : Type 1} → statement M
-answer-one-spec =
-    tie.close
-    (tie.spec
-    (λ c. search needs)
-    (λ c. search needs)
-    (λ c. search needs)
-    (λ c. search needs)
-    (λ c. search needs)
-    (λ c. search needs)
-    (λ c. search needs)
-    (λ c. search needs)
-    (λ c. search needs)
-    (λ c. search needs)
-    (λ c κs. search needs)
-    (λ c. search needs)
-    returns)
+answer-one-spec = tie.close (tie.spec
+    (λ c. search needs) (λ c. search needs) (λ c. search needs) (λ c. search needs) (λ c. search needs) (λ c. search needs) (λ c. search needs)
+    (λ c. search needs) (λ c. search needs) (λ c. search needs) (λ c κs. search needs) (λ c. search needs) returns)

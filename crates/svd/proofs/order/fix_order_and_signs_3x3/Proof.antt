@@ -1,5 +1,5 @@
 -- Magnitudes, then the three signs, then the three comparisons, each as the definition names it.
-use borrow.Author.Needs.{needs}
+use Rattle.float.proofs.Words.{needs}
 use Rattle.svd.specs.Order.{orderOf}
 use Rattle.svd.proofs.order.fix_order_and_signs_3x3.Statement.{statement}
 use Rattle.svd.proofs.order.fix_order_and_signs_3x3.Tie as tie
@@ -20,16 +20,6 @@ returns c =
     )
 
 pub fix-order-and-signs-3x3-spec : {M : Type 1} → statement M
-fix-order-and-signs-3x3-spec =
-    tie.close
-    (tie.spec
-    (λ c κs. search needs)
-    (λ c κs. search needs)
-    (λ c κs. search needs)
-    (λ c κs. search needs)
-    (λ c κs. search needs)
-    (λ c κs. search needs)
-    (λ c κs. search needs)
-    (λ c κs. search needs)
-    (λ c κs. search needs)
-    returns)
+fix-order-and-signs-3x3-spec = tie.close (tie.spec
+    (λ c κs. search needs) (λ c κs. search needs) (λ c κs. search needs) (λ c κs. search needs) (λ c κs. search needs) (λ c κs. search needs)
+    (λ c κs. search needs) (λ c κs. search needs) (λ c κs. search needs) returns)

@@ -1,5 +1,5 @@
 -- Magnitudes, then the two signs, then the comparison, each as the definition names it.
-use borrow.Author.Needs.{needs}
+use Rattle.float.proofs.Words.{needs}
 use Rattle.svd.specs.Order.{order2Of}
 use Rattle.svd.proofs.order.set_order_and_signs_2x2.Statement.{statement}
 use Rattle.svd.proofs.order.set_order_and_signs_2x2.Tie as tie
@@ -16,12 +16,5 @@ returns c =
     )
 
 pub set-order-and-signs-2x2-spec : {M : Type 1} → statement M
-set-order-and-signs-2x2-spec =
-    tie.close
-    (tie.spec
-    (λ c κs. search needs)
-    (λ c κs. search needs)
-    (λ c κs. search needs)
-    (λ c κs. search needs)
-    (λ c κs. search needs)
-    returns)
+set-order-and-signs-2x2-spec = tie.close (tie.spec
+    (λ c κs. search needs) (λ c κs. search needs) (λ c κs. search needs) (λ c κs. search needs) (λ c κs. search needs) returns)

@@ -1,6 +1,5 @@
 -- Each return is one outcome of the test of the sign bit.
-use mathlib.Core.Path.{ap, _∙_}
-use borrow.Author.Needs.{needs}
+use Rattle.float.proofs.Words.{ap, _∙_, needs}
 use Rattle.matrix.specs.Square.{mat3}
 use Rattle.svd.proofs.Signed.{flipped, unflipped}
 use Rattle.svd.proofs.order.sign3.Statement.{statement}

@@ -1,5 +1,5 @@
 -- Each return is one pair, and the call there answers for it.
-use borrow.Author.Needs.{needs}
+use Rattle.float.proofs.Words.{needs}
 use Rattle.svd.proofs.pairs.apply_two_sided_rotation.Statement.{statement}
 use Rattle.svd.proofs.pairs.apply_two_sided_rotation.Tie as tie
 
@@ -16,15 +16,5 @@ returns-3 : tie.Need-returns-3
 returns-3 c = rw (c .before .enum-told3 .given .1) (c .apply23 .ensures)
 
 pub apply-two-sided-rotation-spec : {M : Type 1} → statement M
-apply-two-sided-rotation-spec =
-    tie.close
-    (tie.spec
-    enum-told
-    (λ c κs. search needs)
-    (λ c. search needs)
-    (λ c κs. search needs)
-    (λ c. search needs)
-    (λ c κs. search needs)
-    returns
-    returns-2
-    returns-3)
+apply-two-sided-rotation-spec = tie.close (tie.spec
+    enum-told (λ c κs. search needs) (λ c. search needs) (λ c κs. search needs) (λ c. search needs) (λ c κs. search needs) returns returns-2 returns-3)

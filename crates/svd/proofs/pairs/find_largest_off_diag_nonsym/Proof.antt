@@ -1,5 +1,5 @@
 -- The three sums that are compared are those of the definition.
-use borrow.Author.Needs.{needs}
+use Rattle.float.proofs.Words.{needs}
 use Rattle.svd.proofs.pairs.find_largest_off_diag_nonsym.Statement.{statement}
 use Rattle.svd.proofs.pairs.find_largest_off_diag_nonsym.Tie as tie
 
@@ -9,17 +9,6 @@ returns c =
     rw (c .largest .ensures, sums .pair-size3 .ensures, sums .before .pair-size2 .ensures, sums .before .before .pair-size .ensures)
 
 pub find-largest-off-diag-nonsym-spec : {M : Type 1} → statement M
-find-largest-off-diag-nonsym-spec =
-    tie.close
-    (tie.spec
-    (λ c. search needs)
-    (λ c. search needs)
-    (λ c. search needs)
-    (λ c. search needs)
-    (λ c. search needs)
-    (λ c. search needs)
-    (λ c κs. search needs)
-    (λ c κs. search needs)
-    (λ c κs. search needs)
-    (λ c κs. search needs)
-    returns)
+find-largest-off-diag-nonsym-spec = tie.close (tie.spec
+    (λ c. search needs) (λ c. search needs) (λ c. search needs) (λ c. search needs) (λ c. search needs) (λ c. search needs) (λ c κs. search needs)
+    (λ c κs. search needs) (λ c κs. search needs) (λ c κs. search needs) returns)

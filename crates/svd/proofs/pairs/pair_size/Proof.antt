@@ -1,5 +1,5 @@
 -- Both magnitudes are those of the definition, and so is their sum.
-use borrow.Author.Needs.{needs}
+use Rattle.float.proofs.Words.{needs}
 use Rattle.svd.proofs.pairs.pair_size.Statement.{statement}
 use Rattle.svd.proofs.pairs.pair_size.Tie as tie
 

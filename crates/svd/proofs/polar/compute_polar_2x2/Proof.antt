@@ -1,5 +1,5 @@
 -- The length that the pair is divided by is the one that the definition names.
-use borrow.Author.Needs.{needs}
+use Rattle.float.proofs.Words.{needs}
 use Rattle.svd.specs.Polar.{polarOf}
 use Rattle.svd.proofs.polar.compute_polar_2x2.Statement.{statement}
 use Rattle.svd.proofs.polar.compute_polar_2x2.Tie as tie

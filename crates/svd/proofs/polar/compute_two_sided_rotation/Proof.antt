@@ -1,5 +1,5 @@
 -- The polar step and the Jacobi rotation are those of the definition, and so is what they compose to.
-use borrow.Author.Needs.{needs}
+use Rattle.float.proofs.Words.{needs}
 use Rattle.svd.specs.Polar.{twoSidedOf}
 use Rattle.svd.proofs.polar.compute_two_sided_rotation.Statement.{statement}
 use Rattle.svd.proofs.polar.compute_two_sided_rotation.Tie as tie

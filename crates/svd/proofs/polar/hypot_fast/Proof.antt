@@ -1,5 +1,5 @@
 -- Each return is one outcome of the comparison of the magnitudes.
-use borrow.Author.Needs.{needs}
+use Rattle.float.proofs.Words.{needs}
 use Rattle.svd.specs.Polar.{hypotOf}
 use Rattle.svd.proofs.polar.hypot_fast.Statement.{statement}
 use Rattle.svd.proofs.polar.hypot_fast.Tie as tie
@@ -14,12 +14,4 @@ returns-2 c =
     simp (c .hypot-of-sizes2 .ensures, ← c .before .before .magnitude2 .ensures, ← c .before .before .before .magnitude .ensures, c .before .if1 .left)
 
 pub hypot-fast-spec : {M : Type 1} → statement M
-hypot-fast-spec =
-    tie.close
-    (tie.spec
-    (λ c κs. search needs)
-    (λ c κs. search needs)
-    (λ c κs. search needs)
-    (λ c κs. search needs)
-    returns
-    returns-2)
+hypot-fast-spec = tie.close (tie.spec (λ c κs. search needs) (λ c κs. search needs) (λ c κs. search needs) (λ c κs. search needs) returns returns-2)

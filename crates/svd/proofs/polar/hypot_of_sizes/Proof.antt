@@ -1,5 +1,5 @@
 -- Each return is one outcome of the tests for zero, and the root is the one that the definition names.
-use borrow.Author.Needs.{needs}
+use Rattle.float.proofs.Words.{needs}
 use Rattle.svd.proofs.polar.hypot_of_sizes.Statement.{statement}
 use Rattle.svd.proofs.polar.hypot_of_sizes.Tie as tie
 

@@ -1,5 +1,5 @@
 -- Each return is one outcome of the test for zero, and the call there answers for it.
-use borrow.Author.Needs.{needs}
+use Rattle.float.proofs.Words.{needs}
 use Rattle.svd.specs.Polar.{polarBy}
 use Rattle.svd.proofs.polar.polar_by.Statement.{statement}
 use Rattle.svd.proofs.polar.polar_by.Tie as tie

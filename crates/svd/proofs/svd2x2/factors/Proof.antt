@@ -1,5 +1,5 @@
 -- The turns by columns are those of the definition.
-use borrow.Author.Needs.{needs}
+use Rattle.float.proofs.Words.{needs}
 use Rattle.svd.specs.Svd2x2.{factors2Of}
 use Rattle.svd.proofs.svd2x2.factors.Statement.{statement}
 use Rattle.svd.proofs.svd2x2.factors.Tie as tie

@@ -1,6 +1,5 @@
 -- Each return is one outcome of the test of values, U and V.
-use mathlib.Core.Path.{sym, _∙_}
-use borrow.Author.Needs.{needs}
+use Rattle.float.proofs.Words.{sym, _∙_, needs}
 use Rattle.float.specs.Width.{F}
 use Rattle.float.proofs.Judged.{stands, refuses}
 use Rattle.svd.specs.Order.{ofFactors2}
@@ -20,13 +19,4 @@ returns-2 c =
     ∙ sym (refuses (refusedSvd2 F) 7 (numbers2Of w) (answer2Of w) (c .before .before .three-finite .ensures) (c .before .if1 .left))
 
 pub judge-spec : {M : Type 1} → statement M
-judge-spec =
-    tie.close
-    (tie.spec
-    (λ c. search needs)
-    (λ c. search needs)
-    (λ c. search needs)
-    (λ c κs. search needs)
-    returns
-    (λ c κs. search needs)
-    returns-2)
+judge-spec = tie.close (tie.spec (λ c. search needs) (λ c. search needs) (λ c. search needs) (λ c κs. search needs) returns (λ c κs. search needs) returns-2)

@@ -1,5 +1,5 @@
 -- The diagonal, U and V are those of the state.
-use borrow.Author.Needs.{needs}
+use Rattle.float.proofs.Words.{needs}
 use Rattle.svd.specs.Svd3x3.{factorsOf}
 use Rattle.svd.proofs.svd3x3.factors.Statement.{statement}
 use Rattle.svd.proofs.svd3x3.factors.Tie as tie

@@ -1,5 +1,5 @@
 -- The sum of the largest pair is that of the definition.
-use borrow.Author.Needs.{needs}
+use Rattle.float.proofs.Words.{needs}
 use Rattle.float.specs.Width.{F}
 use Rattle.svd.proofs.Rounds.{tested}
 use Rattle.svd.proofs.svd3x3.is_settled.Statement.{statement}

@@ -1,7 +1,5 @@
 -- Each return is one outcome of the test of matrix, U and V.
-use mathlib.Core.Path.{_≡_, sym, ap, _∙_}
-use mathlib.Core.List.{_++_}
-use borrow.Author.Needs.{needs}
+use Rattle.float.proofs.Words.{_≡_, sym, ap, _∙_, _++_, needs}
 use Rattle.float.specs.Width.{F}
 use Rattle.float.specs.Sign.{allFinite}
 use Rattle.float.proofs.Judged.{stands, refuses}
@@ -32,12 +30,4 @@ returns-2 c =
     c .refused .ensures ∙ sym (refuses (refusedSvd F) 7 (numbersOf s) (answerOf F s) (numbers test) (c .before .if1 .left))
 
 pub judge-spec : {M : Type 1} → statement M
-judge-spec =
-    tie.close
-    (tie.spec
-    (λ c κs. search needs)
-    (λ c κs. search needs)
-    (λ c κs. search needs)
-    returns
-    (λ c κs. search needs)
-    returns-2)
+judge-spec = tie.close (tie.spec (λ c κs. search needs) (λ c κs. search needs) (λ c κs. search needs) returns (λ c κs. search needs) returns-2)

@@ -1,5 +1,5 @@
 -- Each return is one outcome of the test of the input; the answer past it is judged from the last state.
-use borrow.Author.Needs.{needs}
+use Rattle.float.proofs.Words.{needs}
 use Rattle.float.specs.Width.{F}
 use Rattle.float.specs.Judged.{judged}
 use Rattle.float.proofs.Judged.{stands, refuses}
@@ -25,13 +25,5 @@ returns-2 c =
     (c .refused .ensures)
 
 pub svd-spec : {M : Type 1} → statement M
-svd-spec =
-    tie.close
-    (tie.spec
-    (λ c. search needs)
-    (λ c κs. search needs)
-    (λ c κs. search needs)
-    (λ c κs. search needs)
-    returns
-    (λ c κs. search needs)
-    returns-2)
+svd-spec = tie.close (tie.spec
+    (λ c. search needs) (λ c κs. search needs) (λ c κs. search needs) (λ c κs. search needs) returns (λ c κs. search needs) returns-2)

@@ -1,8 +1,5 @@
 -- Two columns that differ are one of the pairs, in one order or the other.
-use mathlib.Core.Path.{_≡_, sym, ap, _∙_}
-use native.Mathlib.Omega.{arith}
-use borrow.Author.Needs.{needs}
-use lib.ListN.{length}
+use Rattle.float.proofs.Words.{_≡_, sym, ap, _∙_, arith, length, needs}
 use Rattle.matrix.specs.Square.{mat2}
 use Rattle.matrix.proofs.Moves.{exchange-same, exchange-ordered}
 use Rattle.matrix.proofs.square.Mat2.swapped.Statement.{statement}

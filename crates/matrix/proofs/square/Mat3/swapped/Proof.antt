@@ -1,8 +1,5 @@
 -- Two columns that differ are one of the pairs, in one order or the other.
-use mathlib.Core.Path.{_≡_, sym, ap, _∙_}
-use native.Mathlib.Omega.{arith}
-use borrow.Author.Needs.{needs}
-use lib.ListN.{length}
+use Rattle.float.proofs.Words.{_≡_, sym, ap, _∙_, arith, length, needs}
 use Rattle.matrix.specs.Square.{mat3}
 use Rattle.matrix.proofs.Moves.{exchange-same, exchange-ordered}
 use Rattle.matrix.proofs.square.Mat3.swapped.Statement.{statement}
@@ -33,15 +30,5 @@ returns-4 c =
     ∙ ap mat3 (sym (exchange-ordered 3 (a .i) (a .j) 1 2 (a .self .«data») (λ l. (omega arith, omega arith)) (λ l. (omega arith, omega arith))))
 
 pub swapped-spec : {M : Type 1} → statement M
-swapped-spec =
-    tie.close
-    (tie.spec
-    returns
-    (λ c. search needs)
-    (λ c κs. search needs)
-    returns-2
-    (λ c. search needs)
-    (λ c κs. search needs)
-    returns-3
-    (λ c κs. search needs)
-    returns-4)
+swapped-spec = tie.close (tie.spec
+    returns (λ c. search needs) (λ c κs. search needs) returns-2 (λ c. search needs) (λ c κs. search needs) returns-3 (λ c κs. search needs) returns-4)

@@ -1,7 +1,5 @@
 -- Both lengths passed, the numbers read one by one are the input's first three.
-use mathlib.Core.Path.{refl}
-use borrow.Author.Needs.{needs}
-use borrow.Author.Tests.{le-leb, lt-leb}
+use Rattle.float.proofs.Words.{refl, le-leb, lt-leb, needs}
 use Rattle.matrix.specs.Arithmetic.{symMulOf}
 use Rattle.matrix.proofs.Tables.{tabulate-take}
 use Rattle.matrix.proofs.symmetric.Sym3.mul.Statement.{statement}
@@ -25,15 +23,5 @@ returns-3 c =
     (rw (c .before .before .before .product .ensures) at (c .before .before .put3 .ensures))
 
 pub mul-spec : {M : Type 1} → statement M
-mul-spec =
-    tie.close
-    (tie.spec
-    returns
-    returns-2
-    (λ c. search needs)
-    (λ c. search needs)
-    (λ c. search needs)
-    (λ c κs. search needs)
-    (λ c κs. search needs)
-    (λ c. search needs)
-    returns-3)
+mul-spec = tie.close (tie.spec
+    returns returns-2 (λ c. search needs) (λ c. search needs) (λ c. search needs) (λ c κs. search needs) (λ c κs. search needs) (λ c. search needs) returns-3)

@@ -1,5 +1,5 @@
 -- Where all numbers are finite the norm is judged, and else refused.
-use borrow.Author.Needs.{needs}
+use Rattle.float.proofs.Words.{needs}
 use Rattle.float.proofs.Judged.{stands, refuses}
 use Rattle.matrix.specs.Arithmetic.{normFroOf}
 use Rattle.matrix.proofs.symmetric.Sym3.norm_fro.Statement.{statement}
@@ -16,12 +16,4 @@ unfolding normFroOf
 returns-2 c = rw (refuses _ _ _ _ (c .before .all-finite .ensures) (c .if1 .left))
 
 pub norm-fro-spec : {M : Type 1} → statement M
-norm-fro-spec =
-    tie.close
-    (tie.spec
-    (λ c. search needs)
-    (λ c κs. search needs)
-    (λ c κs. search needs)
-    (λ c κs. search needs)
-    returns
-    returns-2)
+norm-fro-spec = tie.close (tie.spec (λ c. search needs) (λ c κs. search needs) (λ c κs. search needs) (λ c κs. search needs) returns returns-2)

@@ -1,6 +1,5 @@
 -- Both lengths passed, the numbers read one by one are the first three of each slice.
-use borrow.Author.Needs.{needs}
-use borrow.Author.Tests.{le-leb, lt-leb}
+use Rattle.float.proofs.Words.{le-leb, lt-leb, needs}
 use Rattle.matrix.specs.Arithmetic.{quadFormOf}
 use Rattle.matrix.proofs.Tables.{tabulate-take}
 use Rattle.matrix.proofs.symmetric.Sym3.quad_form.Statement.{statement}
@@ -24,16 +23,6 @@ returns-3 c =
     (c .quad-judged .ensures)
 
 pub quad-form-spec : {M : Type 1} → statement M
-quad-form-spec =
-    tie.close
-    (tie.spec
-    returns
-    returns-2
-    (λ c. search needs)
-    (λ c. search needs)
-    (λ c. search needs)
-    (λ c. search needs)
-    (λ c. search needs)
-    (λ c. search needs)
-    (λ c κs. search needs)
-    returns-3)
+quad-form-spec = tie.close (tie.spec
+    returns returns-2 (λ c. search needs) (λ c. search needs) (λ c. search needs) (λ c. search needs) (λ c. search needs) (λ c. search needs)
+    (λ c κs. search needs) returns-3)
