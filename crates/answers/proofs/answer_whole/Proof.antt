@@ -12,14 +12,10 @@ counted : (total : ℕ) (buf out : List ℕ) → length buf ≡ 65536 → length
 unfolding streamOf
 counted total buf out h k l = simp length-take (omega arith)
 
-slice-aggregate-answer-all : tie.Need-slice-aggregate-answer-all
-slice-aggregate-answer-all c = simp length-take (omega arith)
-
 returns : tie.Need-returns
 returns c =
     let a = c .before .before .before .before .before .before .before .args in
     c .before .before .answer-all .ensures .0 ∙ counted (a .total) (a .buf .now) (a .out .now) (omega arith) (omega arith) (omega arith)
 
 pub answer-whole-spec : {M : Type 1} → statement M
-answer-whole-spec =
-    tie.close (tie.spec slice-aggregate-answer-all (λ c κs. search needs) (λ c. search needs) returns)
+answer-whole-spec = tie.close (tie.spec (λ c. simp length-take (omega arith)) (λ c κs. search needs) (λ c. search needs) returns)

@@ -10,24 +10,6 @@ Inv-loop buf₀ from n i₀ buf i = (i ≤ n) × (length buf ≡ length buf₀) 
 abbrev μ-loop : tie.MeasureT-loop
 μ-loop buf₀ from n i₀ buf i = n - i
 
-loop-holds : tie.Need-loop-holds Inv-loop μ-loop
-loop-holds c = (omega arith, refl, refl, refl)
-
-add-buf : tie.Need-add-buf Inv-loop μ-loop
-add-buf c = omega arith
-
-slice-read-buf : tie.Need-slice-read-buf Inv-loop μ-loop
-slice-read-buf c = omega arith
-
-slice-write-buf : tie.Need-slice-write-buf Inv-loop μ-loop
-slice-write-buf c = omega arith
-
-add-i : tie.Need-add-i Inv-loop μ-loop
-add-i c = omega arith
-
-loop-less : tie.Need-loop-less Inv-loop μ-loop
-loop-less c = omega arith
-
 loop-again : tie.Need-loop-again Inv-loop μ-loop
 loop-again c =
     let k = c .before .before in
@@ -38,9 +20,6 @@ loop-again c =
       rest-kept (k .loop .buf) (a .buf .now) (k .loop .i) (k .loop .inv .3) _,
     )
 
-same-length : tie.Need-same-length Inv-loop μ-loop
-same-length c = omega arith
-
 returns : tie.Need-returns Inv-loop μ-loop
 returns c =
     let k = c .before in
@@ -49,4 +28,14 @@ returns c =
     subst (λ n. take n (k .loop .buf) ≡ take n (drop (a .from) (a .buf .now))) e (k .loop .inv .2)
 
 pub keep-rest-spec : {M : Type 1} → statement M
-keep-rest-spec = tie.close (tie.spec Inv-loop μ-loop loop-holds add-buf slice-read-buf slice-write-buf add-i loop-less loop-again same-length returns)
+keep-rest-spec = tie.close (tie.spec
+    Inv-loop μ-loop
+    (λ c. (omega arith, refl, refl, refl))
+    (λ c. omega arith)
+    (λ c. omega arith)
+    (λ c. omega arith)
+    (λ c. omega arith)
+    (λ c. omega arith)
+    loop-again
+    (λ c. omega arith)
+    returns)

@@ -7,10 +7,6 @@ use Rattle.lent.specs.InPlace.{rotatedOf}
 use Rattle.lent.proofs.rotated.Statement.{statement}
 use Rattle.lent.proofs.rotated.Tie as tie
 
-returns : tie.Need-returns
-unfolding rotatedOf
-returns c = simp (fails (c .before .all-finite .ensures) (c .if1 .taken))
-
 returns-2 : tie.Need-returns-2
 unfolding rotatedOf
 returns-2 c =
@@ -46,5 +42,6 @@ returns-4 c =
 
 pub rotated-spec : {M : Type 1} → statement M
 rotated-spec = tie.close (tie.spec
-    (λ c. search needs) (λ c κs. search needs) returns (λ c. search needs) (λ c κs. search needs) returns-2 (λ c κs. search needs) (λ c. search needs)
-    (λ c κs. search needs) returns-3 returns-4)
+    (λ c. search needs) (λ c κs. search needs)
+    (λ c. unfold rotatedOf in simp (fails (c .before .all-finite .ensures) (c .if1 .taken)))
+    (λ c. search needs) (λ c κs. search needs) returns-2 (λ c κs. search needs) (λ c. search needs) (λ c κs. search needs) returns-3 returns-4)

@@ -11,10 +11,7 @@ returns c =
     rw (stands _ _ _ _ (c .before .before .before .all-finite .ensures) (c .before .before .if1 .taken))
     (rw (c .before .steps .ensures) at (c .judge-factor .ensures))
 
-returns-2 : tie.Need-returns-2
-unfolding factor2Of
-returns-2 c = rw (refuses _ _ _ _ (c .before .all-finite .ensures) (c .if1 .left))
-
 pub cholesky-2x2-explicit-factor-spec : {M : Type 1} → statement M
 cholesky-2x2-explicit-factor-spec = tie.close (tie.spec
-    (λ c. search needs) (λ c κs. search needs) (λ c κs. search needs) (λ c κs. search needs) returns returns-2)
+    (λ c. search needs) (λ c κs. search needs) (λ c κs. search needs) (λ c κs. search needs) returns
+    (λ c. unfold factor2Of in rw (refuses _ _ _ _ (c .before .all-finite .ensures) (c .if1 .left))))

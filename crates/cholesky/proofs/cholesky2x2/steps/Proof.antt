@@ -27,9 +27,6 @@ l21 c = div F (at (a-of (start c)) 1) (l11 c)
 first : (c : tie.After-known-told) → second2Of F (l-of (start c)) (a-of (start c)) (l11 c) (l21 c) ≡ steps2Of F (l-of (start c)) (a-of (start c))
 first c = goes-first2 F (l-of (start c)) (a-of (start c)) (c .before .before .before .pivot-step .ensures) (c .before .p1 .given .1)
 
-enum-told : tie.Need-enum-told
-enum-told c = search needs
-
 returns : tie.Need-returns
 returns c =
     let s = c .before .before .before .before .before .before in
@@ -53,5 +50,5 @@ returns-3 c =
 
 pub steps-spec : {M : Type 1} → statement M
 steps-spec = tie.close (tie.spec
-    (λ c. search needs) (λ c κs. search needs) (λ c. search needs) enum-told (λ c κs. search needs) returns (λ c. search needs) (λ c. search needs)
+    (λ c. search needs) (λ c κs. search needs) (λ c. search needs) (λ c. search needs) (λ c κs. search needs) returns (λ c. search needs) (λ c. search needs)
     (λ c κs. search needs) (λ c. search needs) (λ c. search needs) (λ c. search needs) (λ c κs. search needs) returns-2 (λ c κs. search needs) returns-3)

@@ -4,12 +4,6 @@ use Rattle.float.proofs.Judged.{stands, refuses, unjudged}
 use Rattle.cholesky.proofs.cholesky3x3.judge_solved.Statement.{statement}
 use Rattle.cholesky.proofs.cholesky3x3.judge_solved.Tie as tie
 
-returns : tie.Need-returns
-returns c = rw (ne-eqb _ 0 (c .before .if1 .taken), unjudged) (c .refused .ensures)
-
-returns-2 : tie.Need-returns-2
-returns-2 c = rw (eq-eqb _ 0 (c .before .before .before .before .if1 .left), stands _ _ _ _ (c .before .both-finite .ensures) (c .if2 .taken))
-
 returns-3 : tie.Need-returns-3
 returns-3 c =
     let whole = c .before .before .before .before .before .if1 .left in
@@ -17,4 +11,8 @@ returns-3 c =
 
 pub judge-solved-spec : {M : Type 1} → statement M
 judge-solved-spec = tie.close (tie.spec
-    (λ c κs. search needs) returns (λ c. search needs) (λ c. search needs) (λ c κs. search needs) returns-2 (λ c κs. search needs) returns-3)
+    (λ c κs. search needs)
+    (λ c. rw (ne-eqb _ 0 (c .before .if1 .taken), unjudged) (c .refused .ensures))
+    (λ c. search needs) (λ c. search needs) (λ c κs. search needs)
+    (λ c. rw (eq-eqb _ 0 (c .before .before .before .before .if1 .left), stands _ _ _ _ (c .before .both-finite .ensures) (c .if2 .taken)))
+    (λ c κs. search needs) returns-3)

@@ -4,9 +4,7 @@ use Rattle.float.proofs.Words.{needs}
 use Rattle.eigen.proofs.eigen2x2.eig2.Statement.{statement}
 use Rattle.eigen.proofs.eigen2x2.eig2.Tie as tie
 
-returns : tie.Need-returns
-unfolding solved2
-returns c = simp (c .axes .ensures, c .before .before .compute-jacobi-rotation .ensures)
-
 pub eig2-spec : {M : Type 1} → statement M
-eig2-spec = tie.close (tie.spec (λ c. search needs) (λ c. search needs) (λ c. search needs) (λ c κs. search needs) (λ c κs. search needs) returns)
+eig2-spec = tie.close (tie.spec
+    (λ c. search needs) (λ c. search needs) (λ c. search needs) (λ c κs. search needs) (λ c κs. search needs)
+    (λ c. unfold solved2 in simp (c .axes .ensures, c .before .before .compute-jacobi-rotation .ensures)))

@@ -4,11 +4,7 @@ use Rattle.float.proofs.Words.{needs}
 use Rattle.eigen.proofs.eigen3x3.rank.Statement.{statement}
 use Rattle.eigen.proofs.eigen3x3.rank.Tie as tie
 
-returns : tie.Need-returns
-unfolding rankedOf
-returns c = c .sort3-with-columns .ensures
-
 pub rank-spec : {M : Type 1} → statement M
-rank-spec =
-    tie.close
-    (tie.spec (λ c. search needs) (λ c. search needs) (λ c. search needs) (λ c κs. search needs) returns)
+rank-spec = tie.close (tie.spec
+    (λ c. search needs) (λ c. search needs) (λ c. search needs) (λ c κs. search needs)
+    (λ c. unfold rankedOf in c .sort3-with-columns .ensures))

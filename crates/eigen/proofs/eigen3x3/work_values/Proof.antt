@@ -22,9 +22,6 @@ Inv-loop b₀ made₀ b made = (made .count ≤ 25) × (bareRunOf F (25 - made .
 abbrev μ-loop : tie.MeasureT-loop
 μ-loop b₀ made₀ b made = 25 - made .count
 
-loop-holds : tie.Need-loop-holds Inv-loop μ-loop
-loop-holds c = (omega arith, refl)
-
 returns : tie.Need-returns Inv-loop μ-loop
 unfolding bareRunOf
 returns c =
@@ -54,5 +51,6 @@ returns-2 c =
 
 pub work-values-spec : {M : Type 1} → statement M
 work-values-spec = tie.close (tie.spec
-    Inv-loop μ-loop loop-holds (λ c κs. search needs) (λ c κs. search needs) returns (λ c κs. search needs) (λ c. search needs) (λ c. search needs) loop-again
-    returns-2)
+    Inv-loop μ-loop
+    (λ c. (omega arith, refl))
+    (λ c κs. search needs) (λ c κs. search needs) returns (λ c κs. search needs) (λ c. search needs) (λ c. search needs) loop-again returns-2)

@@ -4,13 +4,8 @@ use Rattle.jacobi.specs.Order.{ordered}
 use Rattle.eigen.proofs.order.order23.Statement.{statement}
 use Rattle.eigen.proofs.order.order23.Tie as tie
 
-returns : tie.Need-returns
-unfolding ordered lt
-returns c = rw (c .if1 .taken)
-
-returns-2 : tie.Need-returns-2
-unfolding ordered lt
-returns-2 c = rw (c .if1 .left)
-
 pub order23-spec : {M : Type 1} → statement M
-order23-spec = tie.close (tie.spec (λ c. search needs) (λ c. search needs) (λ c. search needs) (λ c. search needs) (λ c. search needs) returns returns-2)
+order23-spec = tie.close (tie.spec
+    (λ c. search needs) (λ c. search needs) (λ c. search needs) (λ c. search needs) (λ c. search needs)
+    (λ c. unfold ordered lt in rw (c .if1 .taken))
+    (λ c. unfold ordered lt in rw (c .if1 .left)))

@@ -3,10 +3,7 @@ use Rattle.float.proofs.Words.{needs}
 use Rattle.eigen.proofs.pairs.find_largest_off_diag.Statement.{statement}
 use Rattle.eigen.proofs.pairs.find_largest_off_diag.Tie as tie
 
-returns : tie.Need-returns
-returns c = rw (c .largest .ensures, c .before .magnitude3 .ensures, c .before .before .magnitude2 .ensures, c .before .before .before .magnitude .ensures)
-
 pub find-largest-off-diag-spec : {M : Type 1} → statement M
 find-largest-off-diag-spec = tie.close (tie.spec
     (λ c. search needs) (λ c. search needs) (λ c. search needs) (λ c κs. search needs) (λ c κs. search needs) (λ c κs. search needs) (λ c κs. search needs)
-    returns)
+    (λ c. rw (c .largest .ensures, c .before .magnitude3 .ensures, c .before .before .magnitude2 .ensures, c .before .before .before .magnitude .ensures)))

@@ -3,8 +3,5 @@ use Rattle.float.proofs.Words.{needs}
 use Rattle.eigen.proofs.pairs.rotate_pair.Statement.{statement}
 use Rattle.eigen.proofs.pairs.rotate_pair.Tie as tie
 
-returns : tie.Need-returns
-returns c = rw (c .apply-rotation .ensures, c .before .rotation-of .ensures)
-
 pub rotate-pair-spec : {M : Type 1} → statement M
-rotate-pair-spec = tie.close (tie.spec (λ c κs. search needs) (λ c κs. search needs) returns)
+rotate-pair-spec = tie.close (tie.spec (λ c κs. search needs) (λ c κs. search needs) (λ c. rw (c .apply-rotation .ensures, c .before .rotation-of .ensures)))

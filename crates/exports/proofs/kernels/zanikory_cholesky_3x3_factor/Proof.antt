@@ -8,18 +8,6 @@ use Rattle.exports.proofs.Handing.{handed}
 use Rattle.exports.proofs.kernels.zanikory_cholesky_3x3_factor.Statement.{statement}
 use Rattle.exports.proofs.kernels.zanikory_cholesky_3x3_factor.Tie as tie
 
-returns : tie.Need-returns
-unfolding factor3Into
-returns c = rw (ne-eqb _ 6 (c .if1 .taken)) (refl, refl)
-
-returns-2 : tie.Need-returns-2
-unfolding factor3Into
-returns-2 c = rw (eq-eqb _ 6 (c .before .if1 .left), ne-eqb _ 6 (c .if2 .taken)) (refl, refl)
-
-returns-3 : tie.Need-returns-3
-unfolding factor3Into
-returns-3 c = rw (eq-eqb _ 6 (c .before .before .if1 .left), eq-eqb _ 6 (c .before .if2 .left), ne-eqb _ 6 (c .if3 .taken)) (refl, refl)
-
 put-requires : tie.Need-put-requires
 put-requires c κs =
     let l : length (c .before .before .before .before .cholesky-3x3-explicit-factor .result .factor .«data») ≡ 6 = search needs in
@@ -38,5 +26,7 @@ returns-4 c =
 
 pub zanikory-cholesky-3x3-factor-spec : {M : Type 1} → statement M
 zanikory-cholesky-3x3-factor-spec = tie.close (tie.spec
-    returns returns-2 returns-3 (λ c κs. search needs) (λ c κs. search needs) (λ c κs. search needs) (λ c. search needs) put-requires (λ c. search needs)
-    returns-4)
+    (λ c. unfold factor3Into in rw (ne-eqb _ 6 (c .if1 .taken)) (refl, refl))
+    (λ c. unfold factor3Into in rw (eq-eqb _ 6 (c .before .if1 .left), ne-eqb _ 6 (c .if2 .taken)) (refl, refl))
+    (λ c. unfold factor3Into in rw (eq-eqb _ 6 (c .before .before .if1 .left), eq-eqb _ 6 (c .before .if2 .left), ne-eqb _ 6 (c .if3 .taken)) (refl, refl))
+    (λ c κs. search needs) (λ c κs. search needs) (λ c κs. search needs) (λ c. search needs) put-requires (λ c. search needs) returns-4)

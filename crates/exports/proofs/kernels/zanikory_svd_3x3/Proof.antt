@@ -5,14 +5,6 @@ use Rattle.exports.specs.Kernels.{svdNumbers, svd3Into}
 use Rattle.exports.proofs.kernels.zanikory_svd_3x3.Statement.{statement}
 use Rattle.exports.proofs.kernels.zanikory_svd_3x3.Tie as tie
 
-returns : tie.Need-returns
-unfolding svd3Into
-returns c = rw (ne-eqb _ 30 (c .if1 .taken)) (refl, refl)
-
-returns-2 : tie.Need-returns-2
-unfolding svd3Into
-returns-2 c = rw (eq-eqb _ 30 (c .before .if1 .left), ne-eqb _ 9 (c .if2 .taken)) (refl, refl)
-
 returns-3 : tie.Need-returns-3
 unfolding svd3Into
 returns-3 c =
@@ -31,4 +23,6 @@ returns-4 c =
 
 pub zanikory-svd-3x3-spec : {M : Type 1} → statement M
 zanikory-svd-3x3-spec = tie.close (tie.spec
-    returns returns-2 (λ c κs. search needs) (λ c κs. search needs) returns-3 (λ c κs. search needs) (λ c. search needs) returns-4)
+    (λ c. unfold svd3Into in rw (ne-eqb _ 30 (c .if1 .taken)) (refl, refl))
+    (λ c. unfold svd3Into in rw (eq-eqb _ 30 (c .before .if1 .left), ne-eqb _ 9 (c .if2 .taken)) (refl, refl))
+    (λ c κs. search needs) (λ c κs. search needs) returns-3 (λ c κs. search needs) (λ c. search needs) returns-4)

@@ -6,14 +6,6 @@ use Rattle.exports.proofs.Handing.{handed}
 use Rattle.exports.proofs.moves.move2.Statement.{statement}
 use Rattle.exports.proofs.moves.move2.Tie as tie
 
-returns : tie.Need-returns
-unfolding movedOf
-returns c = rw (ne-eqb _ 4 (c .if1 .taken)) (refl, refl)
-
-returns-2 : tie.Need-returns-2
-unfolding movedOf
-returns-2 c = rw (eq-eqb _ 4 (c .before .if1 .left), ne-eqb _ 4 (c .if2 .taken)) (refl, refl)
-
 put-requires : tie.Need-put-requires
 put-requires c κs =
     let l : length (c .before .before .before .before .moved2 .result .matrix .«data») ≡ 4 = search needs in
@@ -28,4 +20,7 @@ returns-3 c =
     (handed (λ (r : Mat2Answer). r .code) (λ (r : Mat2Answer). r .matrix .«data») (c .before .before .put .ensures) e)
 
 pub move2-spec : {M : Type 1} → statement M
-move2-spec = tie.close (tie.spec returns returns-2 (λ c κs. search needs) (λ c κs. search needs) (λ c. search needs) put-requires (λ c. search needs) returns-3)
+move2-spec = tie.close (tie.spec
+    (λ c. unfold movedOf in rw (ne-eqb _ 4 (c .if1 .taken)) (refl, refl))
+    (λ c. unfold movedOf in rw (eq-eqb _ 4 (c .before .if1 .left), ne-eqb _ 4 (c .if2 .taken)) (refl, refl))
+    (λ c κs. search needs) (λ c κs. search needs) (λ c. search needs) put-requires (λ c. search needs) returns-3)

@@ -4,25 +4,12 @@ use Rattle.matrix.specs.declared.square.Mat3.{Mat3}
 use Rattle.exports.proofs.moves.moved3.Statement.{statement}
 use Rattle.exports.proofs.moves.moved3.Tie as tie
 
-enum-told : tie.Need-enum-told
-enum-told c = search needs
-
-returns : tie.Need-returns
-returns c = rw (c .before .enum-told .given .1) (ap (λ (m : Mat3). record { code = 0; matrix = m }) (c .transpose-in-place .ensures))
-
-returns-2 : tie.Need-returns-2
-returns-2 c = rw (c .before .before .by .given .1) (c .swap-columns .ensures)
-
-returns-3 : tie.Need-returns-3
-returns-3 c = rw (c .before .before .by2 .given .1) (c .flip-column .ensures)
-
-returns-4 : tie.Need-returns-4
-returns-4 c = rw (c .before .before .by3 .given .1) (c .index-mut .ensures)
-
-returns-5 : tie.Need-returns-5
-returns-5 c = rw (c .before .enum-told2 .given .1) (ap (λ (m : Mat3). record { code = 0; matrix = m }) (c .set-identity .ensures))
-
 pub moved3-spec : {M : Type 1} → statement M
 moved3-spec = tie.close (tie.spec
-    enum-told (λ c κs. search needs) (λ c. search needs) (λ c κs. search needs) (λ c. search needs) (λ c κs. search needs) (λ c. search needs)
-    (λ c κs. search needs) (λ c. search needs) (λ c κs. search needs) returns returns-2 returns-3 returns-4 returns-5)
+    (λ c. search needs) (λ c κs. search needs) (λ c. search needs) (λ c κs. search needs) (λ c. search needs) (λ c κs. search needs) (λ c. search needs)
+    (λ c κs. search needs) (λ c. search needs) (λ c κs. search needs)
+    (λ c. rw (c .before .enum-told .given .1) (ap (λ (m : Mat3). record { code = 0; matrix = m }) (c .transpose-in-place .ensures)))
+    (λ c. rw (c .before .before .by .given .1) (c .swap-columns .ensures))
+    (λ c. rw (c .before .before .by2 .given .1) (c .flip-column .ensures))
+    (λ c. rw (c .before .before .by3 .given .1) (c .index-mut .ensures))
+    (λ c. rw (c .before .enum-told2 .given .1) (ap (λ (m : Mat3). record { code = 0; matrix = m }) (c .set-identity .ensures))))

@@ -8,9 +8,6 @@ only [] x e = absurd (omega arith)
 only (y ∷ []) x e = refl
 only (y ∷ z ∷ ys) x e = absurd (omega arith)
 
-enum-told : tie.Need-enum-told
-enum-told c = search needs
-
 returns : tie.Need-returns
 returns c =
     rw (c .before .x .given .1) (refl, only (c .before .before .before .args .out .now) _ (c .before .before .before .pre))
@@ -21,4 +18,4 @@ returns-2 c =
 
 pub put-entry-spec : {M : Type 1} → statement M
 put-entry-spec = tie.close (tie.spec
-    (λ c. search needs) (λ c. search needs) enum-told (λ c. search needs) (λ c. search needs) returns (λ c. search needs) returns-2)
+    (λ c. search needs) (λ c. search needs) (λ c. search needs) (λ c. search needs) (λ c. search needs) returns (λ c. search needs) returns-2)

@@ -8,14 +8,6 @@ use Rattle.exports.proofs.Handing.{handed}
 use Rattle.exports.proofs.moves.zanikory_sym2_index_mut.Statement.{statement}
 use Rattle.exports.proofs.moves.zanikory_sym2_index_mut.Tie as tie
 
-returns : tie.Need-returns
-unfolding packedWriteOf
-returns c = rw (ne-eqb _ 3 (c .if1 .taken)) (refl, refl)
-
-returns-2 : tie.Need-returns-2
-unfolding packedWriteOf
-returns-2 c = rw (eq-eqb _ 3 (c .before .if1 .left), ne-eqb _ 3 (c .if2 .taken)) (refl, refl)
-
 put-requires : tie.Need-put-requires
 put-requires c κs =
     let l : length (c .before .before .before .before .index-mut .result .matrix .«data») ≡ 3 = search needs in
@@ -34,5 +26,6 @@ returns-3 c =
 
 pub zanikory-sym2-index-mut-spec : {M : Type 1} → statement M
 zanikory-sym2-index-mut-spec = tie.close (tie.spec
-    returns returns-2 (λ c κs. search needs) (λ c κs. search needs) (λ c κs. search needs) (λ c κs. search needs) (λ c. search needs) put-requires
-    (λ c. search needs) returns-3)
+    (λ c. unfold packedWriteOf in rw (ne-eqb _ 3 (c .if1 .taken)) (refl, refl))
+    (λ c. unfold packedWriteOf in rw (eq-eqb _ 3 (c .before .if1 .left), ne-eqb _ 3 (c .if2 .taken)) (refl, refl))
+    (λ c κs. search needs) (λ c κs. search needs) (λ c κs. search needs) (λ c κs. search needs) (λ c. search needs) put-requires (λ c. search needs) returns-3)

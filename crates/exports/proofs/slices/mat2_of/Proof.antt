@@ -4,8 +4,5 @@ use Rattle.matrix.specs.Square.{mat2}
 use Rattle.exports.proofs.slices.mat2_of.Statement.{statement}
 use Rattle.exports.proofs.slices.mat2_of.Tie as tie
 
-returns : tie.Need-returns
-returns c = ap mat2 (c .before .put .ensures)
-
 pub mat2-of-spec : {M : Type 1} → statement M
-mat2-of-spec = tie.close (tie.spec (λ c. search needs) (λ c κs. search needs) returns)
+mat2-of-spec = tie.close (tie.spec (λ c. search needs) (λ c κs. search needs) (λ c. ap mat2 (c .before .put .ensures)))

@@ -4,8 +4,5 @@ use Rattle.matrix.specs.Square.{mat3}
 use Rattle.exports.proofs.slices.mat3_of.Statement.{statement}
 use Rattle.exports.proofs.slices.mat3_of.Tie as tie
 
-returns : tie.Need-returns
-returns c = ap mat3 (c .before .put .ensures)
-
 pub mat3-of-spec : {M : Type 1} → statement M
-mat3-of-spec = tie.close (tie.spec (λ c. search needs) (λ c κs. search needs) returns)
+mat3-of-spec = tie.close (tie.spec (λ c. search needs) (λ c κs. search needs) (λ c. ap mat3 (c .before .put .ensures)))

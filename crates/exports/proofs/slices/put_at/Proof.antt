@@ -18,9 +18,6 @@ next out₀ out numbers at i h k e =
     let q : i + 1 ≡ suc i = omega arith in
     rw (p, q, take-suc-set out (at + i) (getD numbers i nan) h, e, take-suc numbers i nan k, append-assoc)
 
-loop-holds : tie.Need-loop-holds Inv-loop μ-loop
-loop-holds c = (omega arith, refl, rw (add-zero, append-nil))
-
 loop-again : tie.Need-loop-again Inv-loop μ-loop
 loop-again c =
     let a = c .before .before .before .args in
@@ -35,5 +32,7 @@ returns c =
 
 pub put-at-spec : {M : Type 1} → statement M
 put-at-spec = tie.close (tie.spec
-    Inv-loop μ-loop loop-holds (λ c. search needs) (λ c. search needs) (λ c. search needs) (λ c. search needs) (λ c. search needs) (λ c. search needs)
-    (λ c. search needs) loop-again (λ c. search needs) returns)
+    Inv-loop μ-loop
+    (λ c. (omega arith, refl, rw (add-zero, append-nil)))
+    (λ c. search needs) (λ c. search needs) (λ c. search needs) (λ c. search needs) (λ c. search needs) (λ c. search needs) (λ c. search needs) loop-again
+    (λ c. search needs) returns)

@@ -4,11 +4,8 @@ use Rattle.float.proofs.Finite.{append-passes, append-fails}
 use Rattle.float.proofs.sign.three_finite.Statement.{statement}
 use Rattle.float.proofs.sign.three_finite.Tie as tie
 
-returns : tie.Need-returns
-returns c = c .both-finite .ensures ∙ sym (append-passes _ _ (sym (c .before .before .all-finite .ensures) ∙ c .before .if1 .taken))
-
-returns-2 : tie.Need-returns-2
-returns-2 c = sym (append-fails _ _ (sym (c .before .all-finite .ensures) ∙ c .if1 .left))
-
 pub three-finite-spec : {M : Type 1} → statement M
-three-finite-spec = tie.close (tie.spec (λ c κs. search needs) (λ c κs. search needs) returns returns-2)
+three-finite-spec = tie.close (tie.spec
+    (λ c κs. search needs) (λ c κs. search needs)
+    (λ c. c .both-finite .ensures ∙ sym (append-passes _ _ (sym (c .before .before .all-finite .ensures) ∙ c .before .if1 .taken)))
+    (λ c. sym (append-fails _ _ (sym (c .before .all-finite .ensures) ∙ c .if1 .left))))

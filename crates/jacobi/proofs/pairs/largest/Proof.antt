@@ -4,9 +4,7 @@ use Rattle.jacobi.specs.Pairs.{largestOf}
 use Rattle.jacobi.proofs.pairs.largest.Statement.{statement}
 use Rattle.jacobi.proofs.pairs.largest.Tie as tie
 
-returns : tie.Need-returns
-unfolding largestOf
-returns c = rw (c .larger2 .ensures, c .before .larger .ensures)
-
 pub largest-spec : {M : Type 1} → statement M
-largest-spec = tie.close (tie.spec (λ c κs. search needs) (λ c κs. search needs) returns)
+largest-spec = tie.close (tie.spec
+    (λ c κs. search needs) (λ c κs. search needs)
+    (λ c. unfold largestOf in rw (c .larger2 .ensures, c .before .larger .ensures)))

@@ -15,9 +15,7 @@ returns c =
       c .root .ensures .is,
     )
 
-returns-2 : tie.Need-returns-2
-unfolding tangentOf
-returns-2 c = simp (← c .before .is-finite .ensures, c .if1 .left)
-
 pub tangent-spec : {M : Type 1} → statement M
-tangent-spec = tie.close (tie.spec (λ c κs. search needs) (λ c κs. search needs) (λ c κs. search needs) (λ c κs. search needs) returns returns-2)
+tangent-spec = tie.close (tie.spec
+    (λ c κs. search needs) (λ c κs. search needs) (λ c κs. search needs) (λ c κs. search needs) returns
+    (λ c. unfold tangentOf in simp (← c .before .is-finite .ensures, c .if1 .left)))

@@ -3,8 +3,5 @@ use Rattle.float.proofs.Words.{needs}
 use Rattle.jacobi.proofs.rotation.turned_by.Statement.{statement}
 use Rattle.jacobi.proofs.rotation.turned_by.Tie as tie
 
-returns : tie.Need-returns
-returns c = rw (c .root .ensures .is)
-
 pub turned-by-spec : {M : Type 1} → statement M
-turned-by-spec = tie.close (tie.spec (λ c κs. search needs) returns)
+turned-by-spec = tie.close (tie.spec (λ c κs. search needs) (λ c. rw (c .root .ensures .is)))

@@ -4,14 +4,8 @@ use Rattle.kinds.specs.Slots.{threeUsed}
 use Rattle.kinds.proofs.slots.three_used.Statement.{statement}
 use Rattle.kinds.proofs.slots.three_used.Tie as tie
 
-returns : tie.Need-returns
-returns c = sym (ap threeUsed (c .match .keys1))
-
-returns-2 : tie.Need-returns-2
-returns-2 c = sym (ap threeUsed (c .match .keys2))
-
-returns-3 : tie.Need-returns-3
-returns-3 c = let r = c .match .rest in rw (ne-eqb _ 7 (r .0 .1), ne-eqb _ 8 (r .1))
-
 pub three-used-spec : {M : Type 1} → statement M
-three-used-spec = tie.close (tie.spec returns returns-2 returns-3)
+three-used-spec = tie.close (tie.spec
+    (λ c. sym (ap threeUsed (c .match .keys1)))
+    (λ c. sym (ap threeUsed (c .match .keys2)))
+    (λ c. let r = c .match .rest in rw (ne-eqb _ 7 (r .0 .1), ne-eqb _ 8 (r .1))))

@@ -3,11 +3,5 @@ use Rattle.float.proofs.Words.{eq-eqb, ne-eqb}
 use Rattle.kinds.proofs.work.done_mark.Statement.{statement}
 use Rattle.kinds.proofs.work.done_mark.Tie as tie
 
-returns : tie.Need-returns
-returns c = rw (eq-eqb _ 0 (c .if1 .taken))
-
-returns-2 : tie.Need-returns-2
-returns-2 c = rw (ne-eqb _ 0 (c .if1 .left))
-
 pub done-mark-spec : {M : Type 1} → statement M
-done-mark-spec = tie.close (tie.spec returns returns-2)
+done-mark-spec = tie.close (tie.spec (λ c. rw (eq-eqb _ 0 (c .if1 .taken))) (λ c. rw (ne-eqb _ 0 (c .if1 .left))))

@@ -3,9 +3,7 @@ use Rattle.float.proofs.Words.{needs}
 use Rattle.kinds.proofs.work.from_solved2.Statement.{statement}
 use Rattle.kinds.proofs.work.from_solved2.Tie as tie
 
-returns : tie.Need-returns
-returns c = rw (c .done-mark .ensures)
-
 pub from-solved2-spec : {M : Type 1} → statement M
 from-solved2-spec = tie.close (tie.spec
-    (λ c κs. search needs) (λ c. search needs) (λ c. search needs) (λ c. search needs) (λ c. search needs) (λ c. search needs) returns)
+    (λ c κs. search needs) (λ c. search needs) (λ c. search needs) (λ c. search needs) (λ c. search needs) (λ c. search needs)
+    (λ c. rw (c .done-mark .ensures)))

@@ -3,8 +3,7 @@ use Rattle.float.proofs.Words.{needs}
 use Rattle.kinds.proofs.work.from_svd2.Statement.{statement}
 use Rattle.kinds.proofs.work.from_svd2.Tie as tie
 
-returns : tie.Need-returns
-returns c = rw (c .mark .ensures, c .before .spread42 .ensures, c .before .before .spread4 .ensures)
-
 pub from-svd2-spec : {M : Type 1} → statement M
-from-svd2-spec = tie.close (tie.spec (λ c κs. search needs) (λ c κs. search needs) (λ c κs. search needs) (λ c. search needs) (λ c. search needs) returns)
+from-svd2-spec = tie.close (tie.spec
+    (λ c κs. search needs) (λ c κs. search needs) (λ c κs. search needs) (λ c. search needs) (λ c. search needs)
+    (λ c. rw (c .mark .ensures, c .before .spread42 .ensures, c .before .before .spread4 .ensures)))

@@ -4,11 +4,8 @@ use Rattle.float.proofs.Judged.{stands, refuses}
 use Rattle.matrix.proofs.answers.judge.Statement.{statement}
 use Rattle.matrix.proofs.answers.judge.Tie as tie
 
-returns : tie.Need-returns
-returns c = rw (stands _ _ _ _ (c .before .all-finite .ensures) (c .if1 .taken))
-
-returns-2 : tie.Need-returns-2
-returns-2 c = rw (refuses _ _ _ _ (c .before .all-finite .ensures) (c .if1 .left))
-
 pub judge-spec : {M : Type 1} → statement M
-judge-spec = tie.close (tie.spec (λ c. search needs) (λ c κs. search needs) returns returns-2)
+judge-spec = tie.close (tie.spec
+    (λ c. search needs) (λ c κs. search needs)
+    (λ c. rw (stands _ _ _ _ (c .before .all-finite .ensures) (c .if1 .taken)))
+    (λ c. rw (refuses _ _ _ _ (c .before .all-finite .ensures) (c .if1 .left))))

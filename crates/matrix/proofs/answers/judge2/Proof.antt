@@ -4,13 +4,8 @@ use Rattle.float.proofs.Judged.{stands, refuses}
 use Rattle.matrix.proofs.answers.judge2.Statement.{statement}
 use Rattle.matrix.proofs.answers.judge2.Tie as tie
 
-returns : tie.Need-returns
-returns c = rw (stands _ _ _ _ (c .before .all-finite .ensures) (c .if1 .taken))
-
-returns-2 : tie.Need-returns-2
-returns-2 c = rw (refuses _ _ _ _ (c .before .before .all-finite .ensures) (c .before .if1 .left)) (c .refuse2 .ensures)
-
 pub judge2-spec : {M : Type 1} → statement M
-judge2-spec =
-    tie.close
-    (tie.spec (λ c. search needs) (λ c κs. search needs) (λ c κs. search needs) returns returns-2)
+judge2-spec = tie.close (tie.spec
+    (λ c. search needs) (λ c κs. search needs) (λ c κs. search needs)
+    (λ c. rw (stands _ _ _ _ (c .before .all-finite .ensures) (c .if1 .taken)))
+    (λ c. rw (refuses _ _ _ _ (c .before .before .all-finite .ensures) (c .before .if1 .left)) (c .refuse2 .ensures)))

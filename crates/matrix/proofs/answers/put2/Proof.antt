@@ -5,10 +5,6 @@ use Rattle.matrix.proofs.Tables.{stored}
 use Rattle.matrix.proofs.answers.put2.Statement.{statement}
 use Rattle.matrix.proofs.answers.put2.Tie as tie
 
-returns : tie.Need-returns
-unfolding putOf
-returns c = rw (lt-leb 2 _ (c .if1 .taken)) (refl, refl)
-
 returns-2 : tie.Need-returns-2
 unfolding putOf
 returns-2 c =
@@ -16,9 +12,8 @@ returns-2 c =
     let l : length (a .p .values) ≡ 2 = search needs in
     rw (le-leb 2 _ (c .before .if1 .left), eq-eqb _ _ (c .if2 .taken)) (refl, stored 2 (a .p .values) (a .y .now) l (c .before .if1 .left))
 
-returns-3 : tie.Need-returns-3
-unfolding putOf
-returns-3 c = rw (le-leb 2 _ (c .before .if1 .left), ne-eqb _ _ (c .if2 .left)) (refl, refl)
-
 pub put2-spec : {M : Type 1} → statement M
-put2-spec = tie.close (tie.spec returns (λ c. search needs) (λ c. search needs) (λ c. search needs) (λ c. search needs) (λ c. search needs) returns-2 returns-3)
+put2-spec = tie.close (tie.spec
+    (λ c. unfold putOf in rw (lt-leb 2 _ (c .if1 .taken)) (refl, refl))
+    (λ c. search needs) (λ c. search needs) (λ c. search needs) (λ c. search needs) (λ c. search needs) returns-2
+    (λ c. unfold putOf in rw (le-leb 2 _ (c .before .if1 .left), ne-eqb _ _ (c .if2 .left)) (refl, refl)))

@@ -5,13 +5,6 @@ use Rattle.matrix.proofs.Tables.{stored}
 use Rattle.matrix.proofs.answers.put3.Statement.{statement}
 use Rattle.matrix.proofs.answers.put3.Tie as tie
 
-returns : tie.Need-returns
-unfolding putOf
-returns c = rw (lt-leb 3 _ (c .if1 .taken)) (refl, refl)
-
-slice-write-y-2 : tie.Need-slice-write-y-2
-slice-write-y-2 c = simp length-set (omega arith)
-
 returns-2 : tie.Need-returns-2
 unfolding putOf
 returns-2 c =
@@ -19,11 +12,10 @@ returns-2 c =
     let l : length (a .p .values) ≡ 3 = search needs in
     rw (le-leb 3 _ (c .before .if1 .left), eq-eqb _ _ (c .if2 .taken)) (refl, stored 3 (a .p .values) (a .y .now) l (c .before .if1 .left))
 
-returns-3 : tie.Need-returns-3
-unfolding putOf
-returns-3 c = rw (le-leb 3 _ (c .before .if1 .left), ne-eqb _ _ (c .if2 .left)) (refl, refl)
-
 pub put3-spec : {M : Type 1} → statement M
 put3-spec = tie.close (tie.spec
-    returns (λ c. search needs) (λ c. search needs) (λ c. search needs) slice-write-y-2 (λ c. search needs) (λ c. search needs) (λ c. search needs) returns-2
-    returns-3)
+    (λ c. unfold putOf in rw (lt-leb 3 _ (c .if1 .taken)) (refl, refl))
+    (λ c. search needs) (λ c. search needs) (λ c. search needs)
+    (λ c. simp length-set (omega arith))
+    (λ c. search needs) (λ c. search needs) (λ c. search needs) returns-2
+    (λ c. unfold putOf in rw (le-leb 3 _ (c .before .if1 .left), ne-eqb _ _ (c .if2 .left)) (refl, refl)))

@@ -11,10 +11,7 @@ returns c =
     rw (stands _ _ _ _ (c .before .before .before .three-finite .ensures) (c .before .before .if1 .taken), ← c .before .quad .ensures)
     (c .judge .ensures)
 
-returns-2 : tie.Need-returns-2
-unfolding quadJudgedOf
-returns-2 c = rw (refuses _ _ _ _ (c .before .three-finite .ensures) (c .if1 .left))
-
 pub quad-judged-spec : {M : Type 1} → statement M
 quad-judged-spec = tie.close (tie.spec
-    (λ c. search needs) (λ c. search needs) (λ c. search needs) (λ c κs. search needs) (λ c κs. search needs) (λ c κs. search needs) returns returns-2)
+    (λ c. search needs) (λ c. search needs) (λ c. search needs) (λ c κs. search needs) (λ c κs. search needs) (λ c κs. search needs) returns
+    (λ c. unfold quadJudgedOf in rw (refuses _ _ _ _ (c .before .three-finite .ensures) (c .if1 .left))))

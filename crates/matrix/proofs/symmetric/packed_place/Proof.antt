@@ -15,18 +15,6 @@ returns-2 c =
     let a = c .before .before .args in
     column-outside (a .n) (a .r) (a .c) _ _ (c .before .if1 .left) (c .if2 .taken)
 
-mul-t7 : tie.Need-mul-t7
-mul-t7 c = omega (arith, small (c .before .before .before .pre) (c .before .if2 .left))
-
-add-t9 : tie.Need-add-t9
-add-t9 c = omega (arith, small (c .before .before .before .pre) (c .before .if2 .left))
-
-mul-t11 : tie.Need-mul-t11
-mul-t11 c = omega (arith, small (c .before .before .before .pre) (c .before .before .if1 .left))
-
-add-t13 : tie.Need-add-t13
-add-t13 c = omega (arith, small (c .before .before .before .pre) (c .before .before .if1 .left))
-
 returns-3 : tie.Need-returns-3
 returns-3 c =
     let a = c .before .before .before .args in
@@ -38,6 +26,11 @@ returns-4 c =
     rw (le-ltb _ _ (c .if3 .left)) (within (a .n) (a .r) (a .c) _ _ (c .before .before .if1 .left) (c .before .if2 .left))
 
 pub packed-place-spec : {M : Type 1} → statement M
-packed-place-spec =
-    tie.close
-    (tie.spec returns returns-2 (λ c. search needs) mul-t7 add-t9 (λ c. search needs) mul-t11 add-t13 returns-3 returns-4)
+packed-place-spec = tie.close (tie.spec
+    returns returns-2 (λ c. search needs)
+    (λ c. omega (arith, small (c .before .before .before .pre) (c .before .if2 .left)))
+    (λ c. omega (arith, small (c .before .before .before .pre) (c .before .if2 .left)))
+    (λ c. search needs)
+    (λ c. omega (arith, small (c .before .before .before .pre) (c .before .before .if1 .left)))
+    (λ c. omega (arith, small (c .before .before .before .pre) (c .before .before .if1 .left)))
+    returns-3 returns-4)

@@ -3,9 +3,6 @@ use Rattle.float.proofs.Words.{arith, length-take, needs}
 use Rattle.probe.proofs.of_cholesky.solve3.Statement.{statement}
 use Rattle.probe.proofs.of_cholesky.solve3.Tie as tie
 
-slice-aggregate-cholesky-3x3-explicit-solve : tie.Need-slice-aggregate-cholesky-3x3-explicit-solve
-slice-aggregate-cholesky-3x3-explicit-solve c = simp length-take (omega arith)
-
 slice-aggregate-cholesky-3x3-explicit-solve-2 :
     tie.Need-slice-aggregate-cholesky-3x3-explicit-solve-2
 slice-aggregate-cholesky-3x3-explicit-solve-2 c = simp length-take (omega arith)
@@ -13,5 +10,5 @@ slice-aggregate-cholesky-3x3-explicit-solve-2 c = simp length-take (omega arith)
 pub solve3-spec : {M : Type 1} → statement M
 solve3-spec = tie.close (tie.spec
     (λ c κs. search needs) (λ c κs. search needs) (λ c κs. search needs) (λ c κs. search needs) (λ c κs. search needs) (λ c. search needs)
-    slice-aggregate-cholesky-3x3-explicit-solve (λ c. search needs) slice-aggregate-cholesky-3x3-explicit-solve-2 (λ c κs. search needs) (λ c κs. search needs)
-    (λ c. search needs))
+    (λ c. simp length-take (omega arith))
+    (λ c. search needs) slice-aggregate-cholesky-3x3-explicit-solve-2 (λ c κs. search needs) (λ c κs. search needs) (λ c. search needs))

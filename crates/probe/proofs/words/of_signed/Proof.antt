@@ -15,9 +15,6 @@ module _ (c : tie.Start) where
   small : SFits w64 z
   small = toZ-fits w64 (ofZ w64 (c .args .x)) (ofZ-fits w64 (c .args .x) (c .fits .x))
 
-sub-result : tie.Need-sub-result
-sub-result c = subst⁻¹ (SFits w64) (flipped (z (c .before)) (c .if1 .taken)) (record { sfits = small (c .before) .sfits })
-
 cast-result : tie.Need-cast-result
 cast-result c =
     subst⁻¹ (λ (y : ℤ). T (nonNeg y) × Fits w64 (natAbs y)) (flipped-back (z (c .before)) (small (c .before)) (c .if1 .taken))
@@ -28,8 +25,9 @@ sub-result-2 c =
     subst⁻¹ (λ (y : ℤ). natAbs y ≤ 18446744073709551615) (flipped-back (z (c .before)) (small (c .before)) (c .if1 .taken))
     (let l = small (c .before) .sfits in omega arith)
 
-cast-result-2 : tie.Need-cast-result-2
-cast-result-2 c = kept (z (c .before)) (small (c .before)) (c .if1 .left)
-
 pub of-signed-spec : {M : Type 1} → statement M
-of-signed-spec = tie.close (tie.spec sub-result cast-result sub-result-2 (λ c. search needs) cast-result-2 (λ c. search needs))
+of-signed-spec = tie.close (tie.spec
+    (λ c. subst⁻¹ (SFits w64) (flipped (z (c .before)) (c .if1 .taken)) (record { sfits = small (c .before) .sfits }))
+    cast-result sub-result-2 (λ c. search needs)
+    (λ c. kept (z (c .before)) (small (c .before)) (c .if1 .left))
+    (λ c. search needs))

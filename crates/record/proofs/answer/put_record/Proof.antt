@@ -9,20 +9,11 @@ use Rattle.record.proofs.answer.put_record.Tie as tie
 slice-aggregate-put-numbers : tie.Need-slice-aggregate-put-numbers
 slice-aggregate-put-numbers c = search needs
 
-put-numbers-requires : tie.Need-put-numbers-requires
-put-numbers-requires c κs = omega (arith, slice-aggregate-put-numbers c)
-
 slice-aggregate-put-numbers-2 : tie.Need-slice-aggregate-put-numbers-2
 slice-aggregate-put-numbers-2 c = search needs
 
-put-numbers-requires-2 : tie.Need-put-numbers-requires-2
-put-numbers-requires-2 c κs = omega (arith, slice-aggregate-put-numbers-2 c)
-
 slice-aggregate-put-numbers-3 : tie.Need-slice-aggregate-put-numbers-3
 slice-aggregate-put-numbers-3 c = search needs
-
-put-numbers-requires-3 : tie.Need-put-numbers-requires-3
-put-numbers-requires-3 c κs = omega (arith, slice-aggregate-put-numbers-3 c)
 
 same-length : tie.Need-same-length
 same-length c = search needs
@@ -48,5 +39,10 @@ returns c =
 
 pub put-record-spec : {M : Type 1} → statement M
 put-record-spec = tie.close (tie.spec
-    (λ c. search needs) (λ c. search needs) (λ c. search needs) (λ c. search needs) (λ c κs. search needs) slice-aggregate-put-numbers put-numbers-requires
-    slice-aggregate-put-numbers-2 put-numbers-requires-2 slice-aggregate-put-numbers-3 put-numbers-requires-3 same-length returns)
+    (λ c. search needs) (λ c. search needs) (λ c. search needs) (λ c. search needs) (λ c κs. search needs) slice-aggregate-put-numbers
+    (λ c κs. omega (arith, slice-aggregate-put-numbers c))
+    slice-aggregate-put-numbers-2
+    (λ c κs. omega (arith, slice-aggregate-put-numbers-2 c))
+    slice-aggregate-put-numbers-3
+    (λ c κs. omega (arith, slice-aggregate-put-numbers-3 c))
+    same-length returns)

@@ -9,10 +9,6 @@ use Rattle.record.proofs.Parts.{first-four}
 use Rattle.record.proofs.answer.zanikory_answer_record.Statement.{statement}
 use Rattle.record.proofs.answer.zanikory_answer_record.Tie as tie
 
-returns : tie.Need-returns
-unfolding recordStepOf
-returns c = rw (ne-eqb _ (answerSize F) (c .if1 .taken)) (refl, refl)
-
 returns-2 : tie.Need-returns-2
 unfolding recordStepOf
 returns-2 c =
@@ -36,5 +32,6 @@ returns-3 c =
 
 pub zanikory-answer-record-spec : {M : Type 1} → statement M
 zanikory-answer-record-spec = tie.close (tie.spec
-    returns (λ c κs. search needs) (λ c κs. search needs) (λ c. search needs) returns-2 (λ c κs. search needs) (λ c. search needs) (λ c. search needs)
+    (λ c. unfold recordStepOf in rw (ne-eqb _ (answerSize F) (c .if1 .taken)) (refl, refl))
+    (λ c κs. search needs) (λ c κs. search needs) (λ c. search needs) returns-2 (λ c κs. search needs) (λ c. search needs) (λ c. search needs)
     (λ c. search needs) (λ c. search needs) (λ c. search needs) (λ c κs. search needs) (λ c. search needs) returns-3)

@@ -15,9 +15,6 @@ Inv-loop out₀ at n rest₀ i₀ out rest i =
 abbrev μ-loop : tie.MeasureT-loop
 μ-loop out₀ at n rest₀ i₀ out rest i = numberBytes F - i
 
-loop-holds : tie.Need-loop-holds Inv-loop μ-loop
-loop-holds c = let a = c .args in (omega arith, refl, ap (λ (k : ℕ). take k (a .out .now) ++ bytesOf (numberBytes F) (a .n)) (add-zero (a .at)))
-
 loop-again : tie.Need-loop-again Inv-loop μ-loop
 loop-again c =
     let l = c .before .loop in
@@ -38,5 +35,6 @@ returns c =
 
 pub put-word-spec : {M : Type 1} → statement M
 put-word-spec = tie.close (tie.spec
-    Inv-loop μ-loop loop-holds (λ c. search needs) (λ c. search needs) (λ c. search needs) (λ c. search needs) (λ c. search needs) loop-again
-    (λ c. search needs) returns)
+    Inv-loop μ-loop
+    (λ c. let a = c .args in (omega arith, refl, ap (λ (k : ℕ). take k (a .out .now) ++ bytesOf (numberBytes F) (a .n)) (add-zero (a .at))))
+    (λ c. search needs) (λ c. search needs) (λ c. search needs) (λ c. search needs) (λ c. search needs) loop-again (λ c. search needs) returns)

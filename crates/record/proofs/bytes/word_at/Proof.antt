@@ -13,10 +13,6 @@ Inv-loop s at w₀ i₀ w i = (i ≤ numberBytes F) × (w ≡ wordOf (part (at +
 abbrev μ-loop : tie.MeasureT-loop
 μ-loop s at w₀ i₀ w i = i
 
-loop-holds : tie.Need-loop-holds Inv-loop μ-loop
-unfolding wordOf
-loop-holds c = (omega arith, refl, omega arith)
-
 mul-w : tie.Need-mul-w Inv-loop μ-loop
 mul-w c =
     let l = c .before .loop in
@@ -52,5 +48,6 @@ returns c =
 
 pub word-at-spec : {M : Type 1} → statement M
 word-at-spec = tie.close (tie.spec
-    Inv-loop μ-loop loop-holds (λ c. search needs) mul-w (λ c. search needs) (λ c. search needs) (λ c κs. search needs) add-w (λ c. search needs) loop-again
-    returns)
+    Inv-loop μ-loop
+    (λ c. unfold wordOf in (omega arith, refl, omega arith))
+    (λ c. search needs) mul-w (λ c. search needs) (λ c. search needs) (λ c κs. search needs) add-w (λ c. search needs) loop-again returns)

@@ -11,9 +11,6 @@ Inv-loop s a e any₀ i₀ any i = (i ≤ e) × (zeroFrom a e s ≡ eqb any 0 &&
 abbrev μ-loop : tie.MeasureT-loop
 μ-loop s a e any₀ i₀ any i = e - i
 
-loop-holds : tie.Need-loop-holds Inv-loop μ-loop
-loop-holds c = (omega arith, refl)
-
 loop-again : tie.Need-loop-again Inv-loop μ-loop
 loop-again c =
     let l = c .before .before .loop in
@@ -31,4 +28,4 @@ returns c =
     ∙ and-true (eqb (l .any) 0))
 
 pub zeros-in-spec : {M : Type 1} → statement M
-zeros-in-spec = tie.close (tie.spec Inv-loop μ-loop loop-holds (λ c. search needs) (λ c. search needs) (λ c. search needs) loop-again returns)
+zeros-in-spec = tie.close (tie.spec Inv-loop μ-loop (λ c. (omega arith, refl)) (λ c. search needs) (λ c. search needs) (λ c. search needs) loop-again returns)

@@ -6,13 +6,8 @@ use Rattle.record.specs.Request.{sizedFormOf}
 use Rattle.record.proofs.request.form.Statement.{statement}
 use Rattle.record.proofs.request.form.Tie as tie
 
-returns : tie.Need-returns
-unfolding sizedFormOf
-returns c = rw (ne-eqb _ (requestSize F) (c .if1 .taken))
-
-returns-2 : tie.Need-returns-2
-unfolding sizedFormOf
-returns-2 c = rw (eq-eqb _ (requestSize F) (c .before .if1 .left)) (c .form-of .ensures)
-
 pub form-spec : {M : Type 1} → statement M
-form-spec = tie.close (tie.spec returns (λ c κs. search needs) returns-2)
+form-spec = tie.close (tie.spec
+    (λ c. unfold sizedFormOf in rw (ne-eqb _ (requestSize F) (c .if1 .taken)))
+    (λ c κs. search needs)
+    (λ c. unfold sizedFormOf in rw (eq-eqb _ (requestSize F) (c .before .if1 .left)) (c .form-of .ensures)))

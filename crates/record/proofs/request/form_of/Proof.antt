@@ -16,9 +16,7 @@ returns-2 c =
     let k = c .before .before .before in
     rw (sym (k .is-known .ensures) ∙ c .before .before .if1 .taken, sym (c .before .unused-zero .ensures) ∙ c .if2 .left)
 
-returns-3 : tie.Need-returns-3
-unfolding formOf
-returns-3 c = rw (sym (c .before .is-known .ensures) ∙ c .if1 .left)
-
 pub form-of-spec : {M : Type 1} → statement M
-form-of-spec = tie.close (tie.spec (λ c. search needs) (λ c κs. search needs) (λ c κs. search needs) returns returns-2 returns-3)
+form-of-spec = tie.close (tie.spec
+    (λ c. search needs) (λ c κs. search needs) (λ c κs. search needs) returns returns-2
+    (λ c. unfold formOf in rw (sym (c .before .is-known .ensures) ∙ c .if1 .left)))

@@ -6,10 +6,6 @@ use Rattle.record.proofs.Used.{used-first}
 use Rattle.record.proofs.request.judged.Statement.{statement}
 use Rattle.record.proofs.request.judged.Tie as tie
 
-returns : tie.Need-returns
-unfolding judgedOf
-returns c = rw (← c .before .before .form-of .ensures, ne-eqb _ 0 (c .before .if1 .taken)) (c .refused .ensures)
-
 returns-2 : tie.Need-returns-2
 unfolding judgedOf
 returns-2 c =
@@ -33,5 +29,6 @@ returns-3 c =
 
 pub judged-spec : {M : Type 1} → statement M
 judged-spec = tie.close (tie.spec
-    (λ c κs. search needs) (λ c κs. search needs) returns (λ c. search needs) (λ c κs. search needs) (λ c κs. search needs) (λ c κs. search needs)
-    (λ c κs. search needs) returns-2 (λ c κs. search needs) returns-3)
+    (λ c κs. search needs) (λ c κs. search needs)
+    (λ c. unfold judgedOf in rw (← c .before .before .form-of .ensures, ne-eqb _ 0 (c .before .if1 .taken)) (c .refused .ensures))
+    (λ c. search needs) (λ c κs. search needs) (λ c κs. search needs) (λ c κs. search needs) (λ c κs. search needs) returns-2 (λ c κs. search needs) returns-3)

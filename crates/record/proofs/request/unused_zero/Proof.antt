@@ -14,24 +14,6 @@ nine-fit c = rw (c .nine-used .ensures) (nine-most (c .before .before .args .kin
 three-fit : (c : tie.After-three-used) → c .three-used .result ≤ 3
 three-fit c = rw (c .three-used .ensures) (three-most (c .before .before .before .args .kind))
 
-mul-zeros-in : tie.Need-mul-zeros-in
-mul-zeros-in c = omega (arith, nine-fit (c .before .before .before))
-
-add-zeros-in : tie.Need-add-zeros-in
-add-zeros-in c = omega (arith, nine-fit (c .before .before .before))
-
-zeros-in-requires-2 : tie.Need-zeros-in-requires-2
-zeros-in-requires-2 c κs = let h = nine-fit (c .before .before .before) in (omega arith, omega arith)
-
-mul-zeros-in-2 : tie.Need-mul-zeros-in-2
-mul-zeros-in-2 c = omega (arith, three-fit (c .before .before .before .before))
-
-add-zeros-in-2 : tie.Need-add-zeros-in-2
-add-zeros-in-2 c = omega (arith, three-fit (c .before .before .before .before))
-
-zeros-in-requires-3 : tie.Need-zeros-in-requires-3
-zeros-in-requires-3 c κs = let h = three-fit (c .before .before .before .before) in (omega arith, omega arith)
-
 returns : tie.Need-returns
 returns c =
     let three = c .before .before .before .before .before in
@@ -55,10 +37,14 @@ returns-2 c =
     ∙ c .if2 .left in
     rw (reserved, nine)
 
-returns-3 : tie.Need-returns-3
-returns-3 c = rw (sym (c .before .zeros-in .ensures) ∙ c .if1 .left)
-
 pub unused-zero-spec : {M : Type 1} → statement M
 unused-zero-spec = tie.close (tie.spec
-    (λ c κs. search needs) (λ c κs. search needs) (λ c κs. search needs) mul-zeros-in add-zeros-in zeros-in-requires-2 mul-zeros-in-2 add-zeros-in-2
-    zeros-in-requires-3 returns returns-2 returns-3)
+    (λ c κs. search needs) (λ c κs. search needs) (λ c κs. search needs)
+    (λ c. omega (arith, nine-fit (c .before .before .before)))
+    (λ c. omega (arith, nine-fit (c .before .before .before)))
+    (λ c κs. let h = nine-fit (c .before .before .before) in (omega arith, omega arith))
+    (λ c. omega (arith, three-fit (c .before .before .before .before)))
+    (λ c. omega (arith, three-fit (c .before .before .before .before)))
+    (λ c κs. let h = three-fit (c .before .before .before .before) in (omega arith, omega arith))
+    returns returns-2
+    (λ c. rw (sym (c .before .zeros-in .ensures) ∙ c .if1 .left)))

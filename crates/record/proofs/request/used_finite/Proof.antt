@@ -9,9 +9,6 @@ use Rattle.record.proofs.request.used_finite.Tie as tie
 slice-aggregate-first-finite : tie.Need-slice-aggregate-first-finite
 slice-aggregate-first-finite c = search needs
 
-first-finite-requires : tie.Need-first-finite-requires
-first-finite-requires c κs = let h = nine-most (c .before .before .args .kind) in omega (arith, slice-aggregate-first-finite (c .before), c .nine-used .ensures)
-
 slice-aggregate-first-finite-2 : tie.Need-slice-aggregate-first-finite-2
 slice-aggregate-first-finite-2 c = search needs
 
@@ -40,5 +37,6 @@ returns-2 c =
 
 pub used-finite-spec : {M : Type 1} → statement M
 used-finite-spec = tie.close (tie.spec
-    slice-aggregate-first-finite (λ c κs. search needs) first-finite-requires slice-aggregate-first-finite-2 (λ c κs. search needs) first-finite-requires-2
-    returns returns-2)
+    slice-aggregate-first-finite (λ c κs. search needs)
+    (λ c κs. let h = nine-most (c .before .before .args .kind) in omega (arith, slice-aggregate-first-finite (c .before), c .nine-used .ensures))
+    slice-aggregate-first-finite-2 (λ c κs. search needs) first-finite-requires-2 returns returns-2)

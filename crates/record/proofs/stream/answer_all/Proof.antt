@@ -17,13 +17,6 @@ Inv-loop requests answers₀ n i₀ answers i =
 abbrev μ-loop : tie.MeasureT-loop
 μ-loop requests answers₀ n i₀ answers i = n - i
 
-loop-holds : tie.Need-loop-holds Inv-loop μ-loop
-unfolding answersOf
-loop-holds c = (omega arith, refl, refl, refl)
-
-answer-one-requires : tie.Need-answer-one-requires Inv-loop μ-loop
-answer-one-requires c κs = (omega arith, omega arith)
-
 loop-again : tie.Need-loop-again Inv-loop μ-loop
 loop-again c =
     let l = c .before .before .before .before .before .loop in
@@ -45,4 +38,7 @@ returns c =
 
 pub answer-all-spec : {M : Type 1} → statement M
 answer-all-spec = tie.close (tie.spec
-    Inv-loop μ-loop (λ c κs. search needs) loop-holds answer-one-requires (λ c. search needs) (λ c. search needs) loop-again (λ c. search needs) returns)
+    Inv-loop μ-loop (λ c κs. search needs)
+    (λ c. unfold answersOf in (omega arith, refl, refl, refl))
+    (λ c κs. (omega arith, omega arith))
+    (λ c. search needs) (λ c. search needs) loop-again (λ c. search needs) returns)

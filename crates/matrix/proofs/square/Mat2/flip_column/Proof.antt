@@ -5,14 +5,6 @@ use Rattle.matrix.specs.declared.square.Mat2.{Mat2}
 use Rattle.matrix.proofs.square.Mat2.flip_column.Statement.{statement}
 use Rattle.matrix.proofs.square.Mat2.flip_column.Tie as tie
 
-returns : tie.Need-returns
-unfolding flipColumnOf
-returns c = rw (c .before .match .keys1) (ap (λ (m : Mat2). record { code = 0; matrix = m }) (c .flip1 .ensures))
-
-returns-2 : tie.Need-returns-2
-unfolding flipColumnOf
-returns-2 c = rw (c .before .match .keys2) (ap (λ (m : Mat2). record { code = 0; matrix = m }) (c .flip2 .ensures))
-
 returns-3 : tie.Need-returns-3
 unfolding flipColumnOf
 returns-3 c =
@@ -20,4 +12,8 @@ returns-3 c =
     rw (le-ltb _ _ past)
 
 pub flip-column-spec : {M : Type 1} → statement M
-flip-column-spec = tie.close (tie.spec (λ c κs. search needs) (λ c κs. search needs) returns returns-2 returns-3)
+flip-column-spec = tie.close (tie.spec
+    (λ c κs. search needs) (λ c κs. search needs)
+    (λ c. unfold flipColumnOf in rw (c .before .match .keys1) (ap (λ (m : Mat2). record { code = 0; matrix = m }) (c .flip1 .ensures)))
+    (λ c. unfold flipColumnOf in rw (c .before .match .keys2) (ap (λ (m : Mat2). record { code = 0; matrix = m }) (c .flip2 .ensures)))
+    returns-3)

@@ -5,18 +5,6 @@ use Rattle.matrix.specs.declared.square.Mat3.{Mat3}
 use Rattle.matrix.proofs.square.Mat3.flip_column.Statement.{statement}
 use Rattle.matrix.proofs.square.Mat3.flip_column.Tie as tie
 
-returns : tie.Need-returns
-unfolding flipColumnOf
-returns c = rw (c .before .match .keys1) (ap (λ (m : Mat3). record { code = 0; matrix = m }) (c .flip1 .ensures))
-
-returns-2 : tie.Need-returns-2
-unfolding flipColumnOf
-returns-2 c = rw (c .before .match .keys2) (ap (λ (m : Mat3). record { code = 0; matrix = m }) (c .flip2 .ensures))
-
-returns-3 : tie.Need-returns-3
-unfolding flipColumnOf
-returns-3 c = rw (c .before .match .keys3) (ap (λ (m : Mat3). record { code = 0; matrix = m }) (c .flip3 .ensures))
-
 returns-4 : tie.Need-returns-4
 unfolding flipColumnOf
 returns-4 c =
@@ -24,6 +12,9 @@ returns-4 c =
     rw (le-ltb _ _ past)
 
 pub flip-column-spec : {M : Type 1} → statement M
-flip-column-spec =
-    tie.close
-    (tie.spec (λ c κs. search needs) (λ c κs. search needs) (λ c κs. search needs) returns returns-2 returns-3 returns-4)
+flip-column-spec = tie.close (tie.spec
+    (λ c κs. search needs) (λ c κs. search needs) (λ c κs. search needs)
+    (λ c. unfold flipColumnOf in rw (c .before .match .keys1) (ap (λ (m : Mat3). record { code = 0; matrix = m }) (c .flip1 .ensures)))
+    (λ c. unfold flipColumnOf in rw (c .before .match .keys2) (ap (λ (m : Mat3). record { code = 0; matrix = m }) (c .flip2 .ensures)))
+    (λ c. unfold flipColumnOf in rw (c .before .match .keys3) (ap (λ (m : Mat3). record { code = 0; matrix = m }) (c .flip3 .ensures)))
+    returns-4)

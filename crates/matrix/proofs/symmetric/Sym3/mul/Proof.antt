@@ -5,14 +5,6 @@ use Rattle.matrix.proofs.Tables.{tabulate-take}
 use Rattle.matrix.proofs.symmetric.Sym3.mul.Statement.{statement}
 use Rattle.matrix.proofs.symmetric.Sym3.mul.Tie as tie
 
-returns : tie.Need-returns
-unfolding symMulOf
-returns c = rw (lt-leb 3 _ (c .if1 .taken)) (refl, refl)
-
-returns-2 : tie.Need-returns-2
-unfolding symMulOf
-returns-2 c = rw (le-leb 3 _ (c .before .if1 .left), lt-leb 3 _ (c .if2 .taken)) (refl, refl)
-
 returns-3 : tie.Need-returns-3
 unfolding symMulOf
 returns-3 c =
@@ -24,4 +16,6 @@ returns-3 c =
 
 pub mul-spec : {M : Type 1} → statement M
 mul-spec = tie.close (tie.spec
-    returns returns-2 (λ c. search needs) (λ c. search needs) (λ c. search needs) (λ c κs. search needs) (λ c κs. search needs) (λ c. search needs) returns-3)
+    (λ c. unfold symMulOf in rw (lt-leb 3 _ (c .if1 .taken)) (refl, refl))
+    (λ c. unfold symMulOf in rw (le-leb 3 _ (c .before .if1 .left), lt-leb 3 _ (c .if2 .taken)) (refl, refl))
+    (λ c. search needs) (λ c. search needs) (λ c. search needs) (λ c κs. search needs) (λ c κs. search needs) (λ c. search needs) returns-3)

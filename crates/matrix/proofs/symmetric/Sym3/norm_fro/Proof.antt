@@ -11,9 +11,7 @@ returns c =
     rw (stands _ _ _ _ (c .before .before .before .all-finite .ensures) (c .before .before .if1 .taken), ← c .before .norm .ensures)
     (c .judge .ensures)
 
-returns-2 : tie.Need-returns-2
-unfolding normFroOf
-returns-2 c = rw (refuses _ _ _ _ (c .before .all-finite .ensures) (c .if1 .left))
-
 pub norm-fro-spec : {M : Type 1} → statement M
-norm-fro-spec = tie.close (tie.spec (λ c. search needs) (λ c κs. search needs) (λ c κs. search needs) (λ c κs. search needs) returns returns-2)
+norm-fro-spec = tie.close (tie.spec
+    (λ c. search needs) (λ c κs. search needs) (λ c κs. search needs) (λ c κs. search needs) returns
+    (λ c. unfold normFroOf in rw (refuses _ _ _ _ (c .before .all-finite .ensures) (c .if1 .left))))

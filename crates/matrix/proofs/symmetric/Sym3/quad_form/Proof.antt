@@ -5,14 +5,6 @@ use Rattle.matrix.proofs.Tables.{tabulate-take}
 use Rattle.matrix.proofs.symmetric.Sym3.quad_form.Statement.{statement}
 use Rattle.matrix.proofs.symmetric.Sym3.quad_form.Tie as tie
 
-returns : tie.Need-returns
-unfolding quadFormOf
-returns c = rw (lt-leb 3 _ (c .if1 .taken))
-
-returns-2 : tie.Need-returns-2
-unfolding quadFormOf
-returns-2 c = rw (le-leb 3 _ (c .before .if1 .left), lt-leb 3 _ (c .if2 .taken))
-
 returns-3 : tie.Need-returns-3
 unfolding quadFormOf
 returns-3 c =
@@ -24,5 +16,6 @@ returns-3 c =
 
 pub quad-form-spec : {M : Type 1} → statement M
 quad-form-spec = tie.close (tie.spec
-    returns returns-2 (λ c. search needs) (λ c. search needs) (λ c. search needs) (λ c. search needs) (λ c. search needs) (λ c. search needs)
-    (λ c κs. search needs) returns-3)
+    (λ c. unfold quadFormOf in rw (lt-leb 3 _ (c .if1 .taken)))
+    (λ c. unfold quadFormOf in rw (le-leb 3 _ (c .before .if1 .left), lt-leb 3 _ (c .if2 .taken)))
+    (λ c. search needs) (λ c. search needs) (λ c. search needs) (λ c. search needs) (λ c. search needs) (λ c. search needs) (λ c κs. search needs) returns-3)

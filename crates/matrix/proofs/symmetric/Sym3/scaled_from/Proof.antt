@@ -11,10 +11,7 @@ returns c =
     rw (stands _ _ _ _ (c .before .before .before .both-finite .ensures) (c .before .before .if1 .taken))
     (rw (c .before .scaled3 .ensures) at (c .judge-sym3 .ensures))
 
-returns-2 : tie.Need-returns-2
-unfolding scaledFromOf
-returns-2 c = rw (refuses _ _ _ _ (c .before .before .both-finite .ensures) (c .before .if1 .left)) (c .refused-sym3 .ensures)
-
 pub scaled-from-spec : {M : Type 1} → statement M
 scaled-from-spec = tie.close (tie.spec
-    (λ c. search needs) (λ c. search needs) (λ c κs. search needs) (λ c κs. search needs) (λ c κs. search needs) (λ c κs. search needs) returns returns-2)
+    (λ c. search needs) (λ c. search needs) (λ c κs. search needs) (λ c κs. search needs) (λ c κs. search needs) (λ c κs. search needs) returns
+    (λ c. unfold scaledFromOf in rw (refuses _ _ _ _ (c .before .before .both-finite .ensures) (c .before .if1 .left)) (c .refused-sym3 .ensures)))
