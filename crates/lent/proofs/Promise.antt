@@ -1,6 +1,6 @@
 -- The promise of `rotate_in_place` as a plain claim. Rattle makes one for each function but those on a lent struct; this is made in the same way, by its own
 -- reader and from the contract as the source states it.
-use Rattle.float.proofs.Words.{refl}
+use mathlib.Core.Path.{refl}
 use base.Logic.{emp}
 use borrow.Fn.Claims.{AllOf}
 use borrow.Fn.Read.{Read, all-models, no-know, r-last}
