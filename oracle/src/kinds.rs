@@ -11,6 +11,8 @@ pub struct Kind {
     /// So many of the nine numbers are used, and so many of the last three.
     pub nine: usize,
     pub three: usize,
+    /// Whether its answers count rotations.
+    pub counts: bool,
     /// The subject that has the same call: its inputs and branches are the kind's too.
     subject: &'static str,
     work: fn(&[f64; 9], &[f64; 3]) -> Answer,
@@ -18,20 +20,21 @@ pub struct Kind {
 
 /// The kinds, from 1 on.
 pub const KINDS: [Kind; 8] = [
-    kind("eigen 2x2", 3, 0, "eigen2", eigen2),
-    kind("eigen 3x3", 6, 0, "eigen_jacobi", eigen3),
-    kind("SVD 2x2", 4, 0, "svd2", svd2),
-    kind("SVD 3x3", 9, 0, "svd3", svd3),
-    kind("Cholesky 2x2", 3, 0, "factor2", factor::<3>),
-    kind("Cholesky 3x3", 6, 0, "factor3", factor::<6>),
-    kind("solve 2x2", 3, 2, "factor_and_solve2", solve::<3, 2>),
-    kind("solve 3x3", 6, 3, "factor_and_solve3", solve::<6, 3>),
+    kind("eigen 2x2", 3, 0, false, "eigen2", eigen2),
+    kind("eigen 3x3", 6, 0, true, "eigen_jacobi", eigen3),
+    kind("SVD 2x2", 4, 0, false, "svd2", svd2),
+    kind("SVD 3x3", 9, 0, true, "svd3", svd3),
+    kind("Cholesky 2x2", 3, 0, false, "factor2", factor::<3>),
+    kind("Cholesky 3x3", 6, 0, false, "factor3", factor::<6>),
+    kind("solve 2x2", 3, 2, false, "factor_and_solve2", solve::<3, 2>),
+    kind("solve 3x3", 6, 3, false, "factor_and_solve3", solve::<6, 3>),
 ];
 
 const fn kind(
     name: &'static str,
     nine: usize,
     three: usize,
+    counts: bool,
     subject: &'static str,
     work: fn(&[f64; 9], &[f64; 3]) -> Answer,
 ) -> Kind {
@@ -39,6 +42,7 @@ const fn kind(
         name,
         nine,
         three,
+        counts,
         subject,
         work,
     }

@@ -55,8 +55,10 @@ fn pivots(row: usize) -> usize {
 /// So many faults are shown.
 const SHOWN: usize = 40;
 
-/// The kinds that count rotations.
-const COUNTED: [usize; 2] = [2, 4];
+/// Whether the kind of a row counts rotations. The row of 0 is that of unknown kinds.
+fn counts_rotations(row: usize) -> bool {
+    row.checked_sub(1).is_some_and(|k| KINDS[k].counts)
+}
 
 /// Counts of answers.
 struct Table {
@@ -134,7 +136,7 @@ impl Table {
         self.cells[row][column] += 1;
         let counts: &mut [u64] = match code {
             PIVOT => &mut self.pivots[row],
-            DONE if COUNTED.contains(&row) => &mut self.rotations[row],
+            DONE if counts_rotations(row) => &mut self.rotations[row],
             _ => &mut [0],
         };
         match counts.get_mut(count) {
@@ -192,7 +194,7 @@ impl Table {
     fn print_rotations(&mut self) {
         for row in 1..ROWS {
             // less than the most are made only where the end is settled, and the other kinds always are
-            let counted = COUNTED.contains(&row);
+            let counted = counts_rotations(row);
             let name = name(row);
             let [not, settled] = self.settled[row];
             let not = self.cell(format!("{name}, not settled"), not, counted);

@@ -2,5 +2,6 @@ pub mod Pivots
 pub mod Steps
 pub mod Stops
 pub mod Codes
+pub mod Rows
 pub mod Owed
 pub mod Unique

@@ -1,3 +1,3 @@
-pub mod Most
+pub mod Rows
 pub mod Works
 pub mod Unique

@@ -1,12 +1,13 @@
--- What each kind answers: the one place that hands numbers to a kernel and takes its values back.
--- `Worked` is a kernel's answer as a record has it: three values, nine numbers left and nine right. Definitions only.
-use mathlib.Core.Bool.{Bool, true, false}
+-- What each kind answers: the one place that hands numbers to a kernel and takes its values back. `Asked` is what a request asks: its kind, its way
+-- and its numbers. `Worked` is a kernel's answer as a record has it: three values, nine numbers left and nine right. Definitions only.
+use mathlib.Core.Bool.{Bool, true, false, _&&_}
 use mathlib.Core.List.{List}
 use Prim.Native.Nat.{ℕ}
 use lib.Dec.{eqb, ltb}
 use lib.Ieee.{Float, Format}
 use Rattle.float.specs.Choice.{pick}
 use Rattle.float.specs.Constants.{zeroF}
+use Rattle.float.specs.Sign.{allFinite}
 use Rattle.matrix.specs.Places.{zeros, at, tabulate}
 use Rattle.cholesky.specs.Factor.{FactorAnswer, factor2Of, factor3Of}
 use Rattle.cholesky.specs.Solve.{SolvedAnswer, factorAndSolve2Of, factorAndSolve3Of}
@@ -18,6 +19,10 @@ use Rattle.svd.specs.Svd2x2.{svd2Of}
 use Rattle.svd.specs.Svd3x3.{svdOf}
 use Rattle.svd.specs.declared.svd2x2.Svd2.{Svd2}
 use Rattle.svd.specs.declared.svd3x3.Svd3.{Svd3}
+use Rattle.kinds.specs.Table.{kindNumbered}
+use Rattle.kinds.specs.declared.table.Kernel.{Kernel}
+use Rattle.kinds.specs.declared.table.Kernel.the-variants.{Eigen2x2, Eigen3x3, Svd2x2, Svd3x3, Factor2x2, Factor3x3, Solve2x2, Solve3x3, Unknown}
+use Rattle.kinds.specs.declared.work.Asked.{Asked}
 use Rattle.kinds.specs.declared.work.Worked.{Worked}
 
 -- ---- numbers in and out
@@ -103,16 +108,24 @@ fromSolved f s n r = record {
   right = zeros f 9;
 }
 
--- ---- the kinds; 3 for any other
+-- ---- whether the numbers that its kind uses are finite
 
-unfoldable pub workOf : Format → ℕ → List Float → List Float → Worked
-workOf f kind nine three =
-    pick (eqb kind 1) (fromEigen2 f (eigen2Of f (firstOf 3 nine)))
-    (pick (eqb kind 2) (fromEigen3 f (eigenOf f (firstOf 6 nine)))
-    (pick (eqb kind 3) (fromSvd2 f (svd2Of f (firstOf 4 nine)))
-    (pick (eqb kind 4) (fromSvd3 f (svdOf f (firstOf 9 nine)))
-    (pick (eqb kind 5) (fromFactor f 3 (factor2Of f (zeros f 3) (firstOf 3 nine)))
-    (pick (eqb kind 6) (fromFactor f 6 (factor3Of f (zeros f 6) (firstOf 6 nine)))
-    (pick (eqb kind 7) (fromSolved f 3 2 (factorAndSolve2Of f (firstOf 3 nine) (firstOf 2 three)))
-    (pick (eqb kind 8) (fromSolved f 6 3 (factorAndSolve3Of f (firstOf 6 nine) (firstOf 3 three)))
-    (refusedKind f 3 0))))))))
+abbrev pub usedFinite : Asked → Bool
+usedFinite a = allFinite (firstOf (kindNumbered (a .kind) .nine) (a .nine)) && allFinite (firstOf (kindNumbered (a .kind) .three) (a .three))
+
+-- ---- each kernel, and the kinds
+
+-- 3 where there is no kernel
+unfoldable pub answeredBy : Format → Kernel → Asked → Worked
+answeredBy f Eigen2x2 a = fromEigen2 f (eigen2Of f (firstOf 3 (a .nine)))
+answeredBy f Eigen3x3 a = fromEigen3 f (eigenOf f (firstOf 6 (a .nine)))
+answeredBy f Svd2x2 a = fromSvd2 f (svd2Of f (firstOf 4 (a .nine)))
+answeredBy f Svd3x3 a = fromSvd3 f (svdOf f (firstOf 9 (a .nine)))
+answeredBy f Factor2x2 a = fromFactor f 3 (factor2Of f (zeros f 3) (firstOf 3 (a .nine)))
+answeredBy f Factor3x3 a = fromFactor f 6 (factor3Of f (zeros f 6) (firstOf 6 (a .nine)))
+answeredBy f Solve2x2 a = fromSolved f 3 2 (factorAndSolve2Of f (firstOf 3 (a .nine)) (firstOf 2 (a .three)))
+answeredBy f Solve3x3 a = fromSolved f 6 3 (factorAndSolve3Of f (firstOf 6 (a .nine)) (firstOf 3 (a .three)))
+answeredBy f Unknown a = refusedKind f 3 0
+
+abbrev pub workOf : Format → Asked → Worked
+workOf f a = answeredBy f (kindNumbered (a .kind) .kernel) a

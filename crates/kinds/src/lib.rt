@@ -1,3 +1,3 @@
 // The eight kinds: which numbers each uses, and which kernel answers it.
-pub mod slots;
+pub mod table;
 pub mod work;

@@ -1,4 +1,6 @@
 // Each kind's numbers handed to its kernel, and the kernel's answer as a record has it. Real is f64 (float::width).
+use crate::table::Kernel;
+use crate::table::kind_numbered;
 use cholesky::cholesky2x2::Factor2;
 use cholesky::cholesky2x2::Solved2;
 use cholesky::cholesky2x2::cholesky_2x2_explicit_factor;
@@ -24,7 +26,15 @@ ghost use Rattle.matrix.specs.Symmetric.{sym2, sym3};
 ghost use Rattle.cholesky.specs.Factor.{ofFactor2, ofFactor3};
 ghost use Rattle.cholesky.specs.Solve.{ofSolved2, ofSolved3};
 ghost use Rattle.kinds.specs.Work.{firstOf, padded, markOf, doneMark, refusedKind, fromEigen2, fromEigen3, fromSvd2, fromSvd3, wholeFactor, fromFactor};
-ghost use Rattle.kinds.specs.Work.{fromSolved, workOf};
+ghost use Rattle.kinds.specs.Work.{fromSolved, answeredBy, workOf};
+
+// What a request asks: its kind, its way, and its numbers.
+pub struct Asked {
+    pub kind: u8,
+    pub way: u8,
+    pub nine: [Real; 9],
+    pub three: [Real; 3],
+}
 
 // Three values, nine numbers left and nine right, with code, count and mark.
 pub struct Worked {
@@ -249,25 +259,42 @@ fn mat3(a: [Real; 9]) -> Mat3
     }
 }
 
-// The answer of a kind to its numbers; 3 for a kind that is none.
-pub fn work(kind: u8, nine: [Real; 9], three: [Real; 3]) -> Worked
-    ensures { λ w. ⌜ w ≡ workOf F kind nine three ⌝ }
+// The answer of a kernel to its numbers; 3 where there is no kernel.
+fn answered_by(kernel: Kernel, a: Asked) -> Worked
+    ensures { λ w. ⌜ w ≡ answeredBy F kernel a ⌝ }
 {
-    match kind {
-        1 => from_eigen2(eigen::eigen2x2::eigen(sym2(nine))),
-        2 => from_eigen3(eigen_jacobi(sym3(nine))),
-        3 => from_svd2(svd::svd2x2::svd(mat2(nine))),
-        4 => from_svd3(svd::svd3x3::svd(mat3(nine))),
-        5 => from_factor2(cholesky_2x2_explicit_factor(Sym2 { data: [0.0; 3] }, sym2(nine))),
-        6 => from_factor3(cholesky_3x3_explicit_factor(Sym3 { data: [0.0; 6] }, sym3(nine))),
-        7 => from_solved2(cholesky::cholesky2x2::factor_and_solve(
+    let nine = a.nine;
+    let three = a.three;
+    match kernel {
+        Kernel::Eigen2x2 => from_eigen2(eigen::eigen2x2::eigen(sym2(nine))),
+        Kernel::Eigen3x3 => from_eigen3(eigen_jacobi(sym3(nine))),
+        Kernel::Svd2x2 => from_svd2(svd::svd2x2::svd(mat2(nine))),
+        Kernel::Svd3x3 => from_svd3(svd::svd3x3::svd(mat3(nine))),
+        Kernel::Factor2x2 => from_factor2(cholesky_2x2_explicit_factor(
+            Sym2 { data: [0.0; 3] },
+            sym2(nine),
+        )),
+        Kernel::Factor3x3 => from_factor3(cholesky_3x3_explicit_factor(
+            Sym3 { data: [0.0; 6] },
+            sym3(nine),
+        )),
+        Kernel::Solve2x2 => from_solved2(cholesky::cholesky2x2::factor_and_solve(
             sym2(nine),
             [three[0], three[1]],
         )),
-        8 => from_solved3(cholesky::cholesky3x3::factor_and_solve(
+        Kernel::Solve3x3 => from_solved3(cholesky::cholesky3x3::factor_and_solve(
             sym3(nine),
             [three[0], three[1], three[2]],
         )),
-        _ => refused(UNKNOWN_KIND, 0),
+        Kernel::Unknown => refused(UNKNOWN_KIND, 0),
     }
+}
+
+// The answer of a kind; 3 for one that no row of the table has.
+pub fn work(a: Asked) -> Worked
+    ensures { λ w. ⌜ w ≡ workOf F a ⌝ }
+{
+    let k = kind_numbered(a.kind);
+    let kernel = k.kernel;
+    answered_by(kernel, a)
 }

@@ -1,5 +1,6 @@
 pub mod Tables
 pub mod Placing
+pub mod Rows
 pub mod Owed
 pub mod Answered
 pub mod Moves

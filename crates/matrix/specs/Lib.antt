@@ -4,4 +4,5 @@ pub mod Symmetric
 pub mod Answer
 pub mod Indexed
 pub mod Arithmetic
+pub mod Rows
 pub mod Owed

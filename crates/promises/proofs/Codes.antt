@@ -1,20 +1,18 @@
--- Each number is given exactly under its row's condition: the record step asks the rows one after the other, in the table's order.
-use Rattle.float.proofs.Words.{_≡_, refl, sym, ap, _∙_, Bool, true, false, not, _&&_, List, [], _∷_, ℕ, arith, eqb, length, Format}
+-- The record step asks the rows one after the other, in the table's order, and its tests decide their conditions.
+use Rattle.float.proofs.Words.{_≡_, refl, ap, _∙_, Bool, true, false, not, _&&_, List, [], _∷_, ℕ, eqb, length, drop, Format}
 use Rattle.float.specs.Choice.{pick}
-use Rattle.float.specs.Exactly.{Exactly}
-use Rattle.kinds.specs.Slots.{knownKind}
-use Rattle.kinds.specs.Work.{refusedKind, workOf}
+use Rattle.matrix.specs.Rows.{Row, on, Gives, WrongLength, NotFinite, NotAbove}
+use Rattle.matrix.proofs.Rows.{first-row, by-length}
+use Rattle.cholesky.proofs.Rows.{later-rows}
+use Rattle.kinds.specs.Table.{kinds, kindNumbered, knownKind}
+use Rattle.kinds.specs.Work.{refusedKind, usedFinite, workOf}
 use Rattle.kinds.specs.declared.work.Worked.{Worked}
 use Rattle.record.specs.Layout.{requestSize, answerSize}
-use Rattle.record.specs.Request.{kindOf, reservedZero, unusedZero, formOf, usedFinite, judgedOf}
+use Rattle.record.specs.Request.{kindOf, askedOf, reservedZero, unusedZero, formOf, judgedOf}
 use Rattle.record.specs.Answer.{Step, recordStepOf}
-use Rattle.record.proofs.Used.{used-numbers}
-use Rattle.promises.specs.Conditions.{nineOf, threeOf, outputLength, inputLength, unknownKind, notZero, inputNotFinite, pivotNotAbove, answerNotFinite}
-use Rattle.promises.specs.Conditions.{Codes}
-use Rattle.promises.proofs.Kernels.{kind-code}
-use Rattle.promises.proofs.Rows.{Row, firstRow, exact, none}
-
--- ---- a request of the right size
+use Rattle.promises.specs.Conditions.{NoneOf, NotZero, UsedNotFinite, pivotsOf, numbersOf, rows, Codes}
+use Rattle.promises.proofs.Decided.{by-kind, by-zeros, by-used}
+use Rattle.promises.proofs.Kernels.{laterCode, kind-code}
 
 -- the tests of 3, 4 and 5, and then the kind's answer w
 asked : (f : Format) (w : Worked) (code : ℕ) (known zero used : Bool) → (known ≡ true → used ≡ true → w .code ≡ code)
@@ -25,59 +23,41 @@ asked f w code true true false h = refl
 asked f w code true false used h = refl
 asked f w code false zero used h = refl
 
+-- the tests of both sizes come first
+sized : (x y z : Step) (t u : Bool) → pick t (pick u x y) z .code ≡ pick (not t) (z .code) (pick (not u) (y .code) (x .code))
+sized x y z true true = refl
+sized x y z true false = refl
+sized x y z false u = refl
+
 module _ (f : Format) (s a : List ℕ) where
-  abbrev lastRows : ℕ
-  lastRows = pick (pivotNotAbove f s a) 6 (pick (answerNotFinite f s a) 7 0)
+  abbrev zero : Bool
+  zero = reservedZero s && unusedZero f (kindNumbered (kindOf s)) s
 
-  work-rows : knownKind (kindOf s) ≡ true → usedFinite f (kindOf s) s ≡ true → workOf f (kindOf s) (nineOf f s a) (threeOf f s a) .code ≡ lastRows
-  work-rows k u = let used = used-numbers f (kindOf s) s u in kind-code f (kindOf s) (nineOf f s a) (threeOf f s a) k (used .0) (used .1)
+  abbrev later : ℕ
+  later = laterCode f (askedOf f s) (kindNumbered (kindOf s) .kernel)
 
-  judged-rows : judgedOf f s .code ≡ pick (unknownKind f s a) 3 (pick (notZero f s a) 4 (pick (inputNotFinite f s a) 5 lastRows))
+  judged-code : judgedOf f s .code ≡ pick (not (knownKind (kindOf s))) 3 (pick (not zero) 4 (pick (not (usedFinite (askedOf f s))) 5 later))
   unfolding judgedOf formOf
-  judged-rows =
-      asked f (workOf f (kindOf s) (nineOf f s a) (threeOf f s a)) lastRows (knownKind (kindOf s)) (reservedZero s && unusedZero f (kindOf s) s)
-      (usedFinite f (kindOf s) s) work-rows
+  judged-code = asked f (workOf f (askedOf f s)) later (knownKind (kindOf s)) zero (usedFinite (askedOf f s)) (kind-code f (askedOf f s))
 
-  -- ---- both sizes
-
-  abbrev first : Row
-  first = record { code = 2; holds = outputLength f s a }
-
-  abbrev others : List Row
-  others =
-      record { code = 1; holds = inputLength f s a }
-      ∷ record { code = 3; holds = unknownKind f s a }
-      ∷ record { code = 4; holds = notZero f s a }
-      ∷ record { code = 5; holds = inputNotFinite f s a }
-      ∷ record { code = 6; holds = pivotNotAbove f s a }
-      ∷ record { code = 7; holds = answerNotFinite f s a }
-      ∷ []
-
-  abbrev rows : List Row
-  rows = first ∷ others
-
-  sized : (x y z : Step) (t u : Bool) → pick t (pick u x y) z .code ≡ pick (not t) (z .code) (pick (not u) (y .code) (x .code))
-  sized x y z true true = refl
-  sized x y z true false = refl
-  sized x y z false u = refl
-
-  by-table : recordStepOf f s a .code ≡ firstRow rows
+  step-code : recordStepOf f s a .code
+      ≡ pick (not (eqb (length a) (answerSize f))) 2 (pick (not (eqb (length s) (requestSize f))) 1 (judgedOf f s .code))
   unfolding recordStepOf
-  by-table =
-      sized _ _ _ (eqb (length a) (answerSize f)) (eqb (length s) (requestSize f))
-      ∙ ap (λ (k : ℕ). pick (outputLength f s a) 2 (pick (inputLength f s a) 1 k)) judged-rows
+  step-code = sized _ _ _ (eqb (length a) (answerSize f)) (eqb (length s) (requestSize f))
 
-  through : {Q : Type 0} (k : ℕ) → Exactly (firstRow rows ≡ k) Q → Exactly (recordStepOf f s a .code ≡ k) Q
-  through k h = ((λ e. h .0 (sym by-table ∙ e)), (λ q. by-table ∙ h .1 q))
-
-pub codes : (f : Format) (s a : List ℕ) → Codes f s a
-codes f s a = record {
-  two = through f s a 2 (exact 2 (rows f s a) (omega arith) refl);
-  one = through f s a 1 (exact 1 (rows f s a) (omega arith) refl);
-  three = through f s a 3 (exact 3 (rows f s a) (omega arith) refl);
-  four = through f s a 4 (exact 4 (rows f s a) (omega arith) refl);
-  five = through f s a 5 (exact 5 (rows f s a) (omega arith) refl);
-  six = through f s a 6 (exact 6 (rows f s a) (omega arith) refl);
-  seven = through f s a 7 (exact 7 (rows f s a) (omega arith) refl);
-  zero = through f s a 0 (none (first f s a) (others f s a) refl);
-}
+  pub codes : Codes f s a
+  codes =
+      let k = kindNumbered (kindOf s) in
+      let r = rows f s a in
+      let c6 = later in
+      let c5 = pick (not (usedFinite (askedOf f s))) 5 c6 in
+      let c4 = pick (not zero) 4 c5 in
+      let c3 = pick (not (knownKind (kindOf s))) 3 c4 in
+      let c1 = pick (not (eqb (length s) (requestSize f))) 1 c3 in
+      rw (step-code, judged-code)
+      (first-row (not (eqb (length a) (answerSize f))) (on 2 (WrongLength a (answerSize f))) (drop 1 r) c1 (by-length a (answerSize f))
+      (first-row (not (eqb (length s) (requestSize f))) (on 1 (WrongLength s (requestSize f))) (drop 2 r) c3 (by-length s (requestSize f))
+      (first-row (not (knownKind (kindOf s))) (on 3 (NoneOf kinds (kindOf s))) (drop 3 r) c4 (by-kind (kindOf s))
+      (first-row (not zero) (on 4 (NotZero f k s)) (drop 4 r) c5 (by-zeros f k s)
+      (first-row (not (usedFinite (askedOf f s))) (on 5 (UsedNotFinite f k s)) (drop 5 r) c6 (by-used f s)
+      (later-rows f (pivotsOf f (k .kernel) (askedOf f s)) (numbersOf f (k .kernel) (askedOf f s))))))))

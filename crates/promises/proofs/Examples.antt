@@ -17,12 +17,12 @@ use Rattle.svd.specs.Pairs.{sidesOf}
 use Rattle.svd.specs.Order.{signedColumn, orderOf, order2Of}
 use Rattle.svd.specs.Svd2x2 as svd2
 use Rattle.svd.specs.Svd3x3 as svd3
-use Rattle.kinds.specs.Work.{fromFactor, workOf}
+use Rattle.kinds.specs.Work.{fromFactor, answeredBy}
 use Rattle.promises.specs.Examples.{Row, answerOf, table}
 
 pub examples : map answerOf table ≡ map (λ (r : Row). r .answer) table
 unfolding rootOf magnitudeOf signBitOf signumOf finite allFinite judged pivotOf steps2Of steps3Of factor2Of factor3Of factorAndSolve2Of tangentOf rotationOf
     largestOf ordered runFrom run axesOf solved2 end2Of eigen2Of settledOf nextMatrix nextVectors stepOf runOf rankedOf endOf eigenOf hypotOf polarBy polarOf
     twoSidedOf sidesOf signedColumn orderOf order2Of svd2.factors2Of svd2.end2Of svd2.svd2Of svd3.settledOf svd3.stepOf svd3.runOf svd3.factorsOf svd3.endOf
-    svd3.svdOf fromFactor workOf add sub mul div lt le eq ofBits toBits
+    svd3.svdOf fromFactor answeredBy add sub mul div lt le eq ofBits toBits
 examples = refl

@@ -1,6 +1,6 @@
 pub mod Examples
 pub mod Kernels
-pub mod Rows
+pub mod Decided
 pub mod Codes
 pub mod Signs
 pub mod Wiring

@@ -1,5 +1,5 @@
 -- With code 6 an answer has the number of the first pivot that is at most zero: the steps stop there, and their number is handed on.
-use Rattle.float.proofs.Words.{_≡_, refl, sym, _∙_, Bool, true, false, _&&_, List, ℕ, arith, Float, Format}
+use Rattle.float.proofs.Words.{_≡_, refl, sym, _∙_, Bool, true, false, _&&_, List, ℕ, arith, Format}
 use Rattle.float.specs.Choice.{pick}
 use Rattle.float.specs.Sign.{allFinite}
 use Rattle.float.proofs.Choice.{by-test, by-eqb}
@@ -7,16 +7,17 @@ use Rattle.matrix.specs.Places.{zeros}
 use Rattle.cholesky.specs.Factor.{FactorAnswer}
 use Rattle.cholesky.specs.Pivots.{oneAtMostZero, refusedPivot}
 use Rattle.cholesky.proofs.Codes.{factor2-pivot, factor3-pivot, solved2-pivot, solved3-pivot}
-use Rattle.kinds.specs.Slots.{knownKind, nineUsed, threeUsed}
-use Rattle.kinds.specs.Work.{firstOf, refusedKind, fromFactor, workOf}
+use Rattle.kinds.specs.Table.{kindNumbered, knownKind}
+use Rattle.kinds.specs.Work.{firstOf, refusedKind, fromFactor, usedFinite, answeredBy, workOf}
+use Rattle.kinds.specs.declared.table.Kind.{Kind}
+use Rattle.kinds.specs.declared.table.Kernel.the-variants.{Eigen2x2, Eigen3x3, Svd2x2, Svd3x3}
+use Rattle.kinds.specs.declared.work.Asked.{Asked}
 use Rattle.kinds.specs.declared.work.Worked.{Worked}
-use Rattle.record.specs.Layout.{nineAt, threeAt}
-use Rattle.record.specs.Bytes.{numbersFrom}
-use Rattle.record.specs.Request.{kindOf, reservedZero, unusedZero, formOf, usedFinite, judgedOf}
-use Rattle.record.proofs.Used.{used-numbers}
+use Rattle.kinds.proofs.Rows.{each-kind}
 use Rattle.kinds.proofs.Works.{factor-code}
+use Rattle.record.specs.Request.{kindOf, askedOf, reservedZero, unusedZero, formOf, judgedOf}
 use Rattle.promises.specs.Conditions.{pivotsOf, numbersOf, PivotGiven}
-use Rattle.promises.proofs.Kernels.{seven, each-known, kind-code}
+use Rattle.promises.proofs.Kernels.{laterCode, kind-code}
 
 -- with 6 a record of a factor has the factor's number
 factor-hands : (f : Format) (s pivot : ℕ) (r : FactorAnswer) → (r .code ≡ 6 → r .pivot ≡ pivot) → fromFactor f s r .code ≡ 6 → fromFactor f s r .count ≡ pivot
@@ -26,26 +27,28 @@ factor-hands f s pivot r h c =
 
 -- ---- the kinds
 
-not-six : (t : Bool) → seven t ≡ 6 → ⊥
+not-six : (t : Bool) → pick {A = ℕ} t 0 7 ≡ 6 → ⊥
 not-six true e = omega arith
 not-six false e = omega arith
 
-work-hands : (f : Format) (nine three : List Float) (kind : ℕ) → knownKind kind ≡ true → allFinite (firstOf (nineUsed kind) nine) ≡ true
-    → allFinite (firstOf (threeUsed kind) three) ≡ true
-    → workOf f kind nine three .code ≡ 6 → workOf f kind nine three .count ≡ refusedPivot f 1 (pivotsOf f kind nine)
-unfolding workOf oneAtMostZero
-work-hands f nine three =
-    each-known
-    (λ (k : ℕ). allFinite (firstOf (nineUsed k) nine) ≡ true → allFinite (firstOf (threeUsed k) three) ≡ true
-    → workOf f k nine three .code ≡ 6 → workOf f k nine three .count ≡ refusedPivot f 1 (pivotsOf f k nine))
-    (λ h k c. absurd (not-six (allFinite (numbersOf f 1 nine three)) (sym (kind-code f 1 nine three refl h k) ∙ c)))
-    (λ h k c. absurd (not-six (allFinite (numbersOf f 2 nine three)) (sym (kind-code f 2 nine three refl h k) ∙ c)))
-    (λ h k c. absurd (not-six (allFinite (numbersOf f 3 nine three)) (sym (kind-code f 3 nine three refl h k) ∙ c)))
-    (λ h k c. absurd (not-six (allFinite (numbersOf f 4 nine three)) (sym (kind-code f 4 nine three refl h k) ∙ c)))
-    (λ _ _ c. factor-hands f 3 _ _ (factor2-pivot f (zeros f 3) (firstOf 3 nine)) c)
-    (λ _ _ c. factor-hands f 6 _ _ (factor3-pivot f (zeros f 6) (firstOf 6 nine)) c)
-    (λ _ _. solved2-pivot f (firstOf 3 nine) (firstOf 2 three))
-    (λ _ _. solved3-pivot f (firstOf 6 nine) (firstOf 3 three))
+module _ (f : Format) (a : Asked) where
+  -- a kernel without pivots makes no 6
+  abbrev Hands : Kind → Type 0
+  Hands k = answeredBy f (k .kernel) a .code ≡ laterCode f a (k .kernel) → answeredBy f (k .kernel) a .code ≡ 6
+      → answeredBy f (k .kernel) a .count ≡ refusedPivot f 1 (pivotsOf f (k .kernel) a)
+
+  work-hands : (n : ℕ) → Hands (kindNumbered n)
+  unfolding answeredBy oneAtMostZero
+  work-hands =
+      each-kind Hands (λ _ c. absurd (omega arith))
+      (λ e c. absurd (not-six (allFinite (numbersOf f Eigen2x2 a)) (sym e ∙ c)))
+      (λ e c. absurd (not-six (allFinite (numbersOf f Eigen3x3 a)) (sym e ∙ c)))
+      (λ e c. absurd (not-six (allFinite (numbersOf f Svd2x2 a)) (sym e ∙ c)))
+      (λ e c. absurd (not-six (allFinite (numbersOf f Svd3x3 a)) (sym e ∙ c)))
+      (λ _ c. factor-hands f 3 _ _ (factor2-pivot f (zeros f 3) (firstOf 3 (a .nine))) c)
+      (λ _ c. factor-hands f 6 _ _ (factor3-pivot f (zeros f 6) (firstOf 6 (a .nine))) c)
+      (λ _. solved2-pivot f (firstOf 3 (a .nine)) (firstOf 2 (a .three)))
+      (λ _. solved3-pivot f (firstOf 6 (a .nine)) (firstOf 3 (a .three)))
 
 -- ---- the record
 
@@ -61,13 +64,12 @@ form-not-six false z e = omega arith
 pub pivot-given : (f : Format) (s : List ℕ) → PivotGiven f s
 unfolding judgedOf formOf
 pivot-given f s =
-    let kind = kindOf s in
-    let nine = numbersFrom f 9 nineAt s in
-    let three = numbersFrom f 3 (threeAt f) s in
+    let a = askedOf f s in
+    let kind = kindNumbered (kindOf s) in
     let zero = reservedZero s && unusedZero f kind s in
-    let P : Worked → Type 0 = λ (w : Worked). w .code ≡ 6 → w .count ≡ refusedPivot f 1 (pivotsOf f kind nine) in
-    by-eqb P (formOf f s) 0 (pick (usedFinite f kind s) (workOf f kind nine three) (refusedKind f 5 0)) (refusedKind f (formOf f s) 0)
-    (λ e. by-test P (usedFinite f kind s) (workOf f kind nine three) (refusedKind f 5 0)
-    (λ u. let used = used-numbers f kind s u in work-hands f nine three kind (known-form (knownKind kind) zero e) (used .0) (used .1))
+    let P : Worked → Type 0 = λ (w : Worked). w .code ≡ 6 → w .count ≡ refusedPivot f 1 (pivotsOf f (kind .kernel) a) in
+    by-eqb P (formOf f s) 0 (pick (usedFinite a) (workOf f a) (refusedKind f 5 0)) (refusedKind f (formOf f s) 0)
+    (λ e. by-test P (usedFinite a) (workOf f a) (refusedKind f 5 0)
+    (λ u. work-hands f a (kindOf s) (kind-code f a (known-form (knownKind (kindOf s)) zero e) u))
     (λ _ c. absurd (omega arith)))
-    (λ _ c. absurd (form-not-six (knownKind kind) zero c))
+    (λ _ c. absurd (form-not-six (knownKind (kindOf s)) zero c))

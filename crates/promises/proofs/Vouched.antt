@@ -17,11 +17,11 @@ use Rattle.eigen.specs.declared.eigen3x3.Eigen3.{Eigen3}
 use Rattle.svd.proofs.Owed.{svd2-owed, svd3-owed}
 use Rattle.svd.specs.declared.svd2x2.Svd2.{Svd2}
 use Rattle.svd.specs.declared.svd3x3.Svd3.{Svd3}
-use Rattle.kinds.specs.Work.{firstOf, padded, refusedKind, fromEigen2, fromEigen3, fromSvd2, fromSvd3, fromFactor, fromSolved, workOf}
-use Rattle.kinds.proofs.Works.{each-kind}
-use Rattle.record.specs.Layout.{nineAt, threeAt}
-use Rattle.record.specs.Bytes.{numbersFrom}
-use Rattle.record.specs.Request.{kindOf, formOf, usedFinite, judgedOf}
+use Rattle.kinds.specs.Work.{firstOf, padded, refusedKind, fromEigen2, fromEigen3, fromSvd2, fromSvd3, fromFactor, fromSolved, usedFinite, answeredBy, workOf}
+use Rattle.kinds.specs.declared.table.Kind.{Kind}
+use Rattle.kinds.specs.declared.work.Asked.{Asked}
+use Rattle.kinds.proofs.Rows.{each-kind}
+use Rattle.record.specs.Request.{askedOf, formOf, judgedOf}
 use Rattle.promises.specs.Vouched.{Vouched}
 
 -- ---- numbers in their places
@@ -44,36 +44,35 @@ factor-vouched f s r h =
 
 -- ---- each kind
 
-module _ (f : Format) (nine three : List Float) where
-  work-vouched : (kind : ℕ) → Vouched (workOf f kind nine three)
-  work-vouched kind =
+module _ (f : Format) (a : Asked) where
+  work-vouched : Vouched (workOf f a)
+  unfolding answeredBy
+  work-vouched =
+      let nine = a .nine in
+      let three = a .three in
       let zero = refused-vouched f 0 0 in
-      each-kind Vouched f kind nine three
-      (λ _. by-owed (eigen2-owed f (firstOf 3 nine)) (λ (r : Eigen2). Vouched (fromEigen2 f r))
+      each-kind (λ (k : Kind). Vouched (answeredBy f (k .kernel) a)) zero
+      (by-owed (eigen2-owed f (firstOf 3 nine)) (λ (r : Eigen2). Vouched (fromEigen2 f r))
       (λ h. (padded-finite f 3 2 _ (h .0) (h .1), padded-finite f 9 4 _ (h .2 .0) (h .2 .1), zeros-finite f 9)) zero)
-      (λ _. by-owed (eigen3-owed f (firstOf 6 nine) refl) (λ (r : Eigen3). Vouched (fromEigen3 f r))
+      (by-owed (eigen3-owed f (firstOf 6 nine) refl) (λ (r : Eigen3). Vouched (fromEigen3 f r))
       (λ h. (padded-finite f 3 3 _ (h .0) (h .1), padded-finite f 9 9 _ (h .2 .0) (h .2 .1), zeros-finite f 9)) zero)
-      (λ _. by-owed (svd2-owed f (firstOf 4 nine)) (λ (r : Svd2). Vouched (fromSvd2 f r))
+      (by-owed (svd2-owed f (firstOf 4 nine)) (λ (r : Svd2). Vouched (fromSvd2 f r))
       (λ h. (padded-finite f 3 2 _ (h .0) (h .1), padded-finite f 9 4 _ (h .2 .0) (h .2 .1), padded-finite f 9 4 _ (h .2 .2 .0) (h .2 .2 .1))) zero)
-      (λ _. by-owed (svd3-owed f (firstOf 9 nine) refl) (λ (r : Svd3). Vouched (fromSvd3 f r))
+      (by-owed (svd3-owed f (firstOf 9 nine) refl) (λ (r : Svd3). Vouched (fromSvd3 f r))
       (λ h. (padded-finite f 3 3 _ (h .0) (h .1), padded-finite f 9 9 _ (h .2 .0) (h .2 .1), padded-finite f 9 9 _ (h .2 .2 .0) (h .2 .2 .1))) zero)
-      (λ _. factor-vouched f 3 _ (λ e. let h = factor2-owed f (zeros f 3) (firstOf 3 nine) refl .full e in (h .0, h .1)))
-      (λ _. factor-vouched f 6 _ (λ e. let h = factor3-owed f (zeros f 6) (firstOf 6 nine) refl .full e in (h .0, h .1)))
-      (λ _. by-owed (solved2-owed f (firstOf 3 nine) (firstOf 2 three)) (λ (r : SolvedAnswer). Vouched (fromSolved f 3 2 r))
+      (factor-vouched f 3 _ (λ e. let h = factor2-owed f (zeros f 3) (firstOf 3 nine) refl .full e in (h .0, h .1)))
+      (factor-vouched f 6 _ (λ e. let h = factor3-owed f (zeros f 6) (firstOf 6 nine) refl .full e in (h .0, h .1)))
+      (by-owed (solved2-owed f (firstOf 3 nine) (firstOf 2 three)) (λ (r : SolvedAnswer). Vouched (fromSolved f 3 2 r))
       (λ h. (padded-finite f 3 2 _ (h .2 .0) (h .2 .1), padded-finite f 9 3 _ (h .0) (h .1), zeros-finite f 9)) zero)
-      (λ _. by-owed (solved3-owed f (firstOf 6 nine) (firstOf 3 three)) (λ (r : SolvedAnswer). Vouched (fromSolved f 6 3 r))
+      (by-owed (solved3-owed f (firstOf 6 nine) (firstOf 3 three)) (λ (r : SolvedAnswer). Vouched (fromSolved f 6 3 r))
       (λ h. (padded-finite f 3 3 _ (h .2 .0) (h .2 .1), padded-finite f 9 6 _ (h .0) (h .1), zeros-finite f 9)) zero)
-      zero
+      (a .kind)
 
 -- ---- every record
 
 pub vouched : (f : Format) (request : List ℕ) → Vouched (judgedOf f request)
 unfolding judgedOf
 vouched f request =
-    let kind = kindOf request in
-    let nine = numbersFrom f 9 nineAt request in
-    let three = numbersFrom f 3 (threeAt f) request in
-    chosen Vouched (eqb (formOf f request) 0) (pick (usedFinite f kind request) (workOf f kind nine three) (refusedKind f 5 0))
-    (refusedKind f (formOf f request) 0)
-    (chosen Vouched (usedFinite f kind request) (workOf f kind nine three) (refusedKind f 5 0) (work-vouched f nine three kind) (refused-vouched f 5 0))
-    (refused-vouched f (formOf f request) 0)
+    let a = askedOf f request in
+    chosen Vouched (eqb (formOf f request) 0) (pick (usedFinite a) (workOf f a) (refusedKind f 5 0)) (refusedKind f (formOf f request) 0)
+    (chosen Vouched (usedFinite a) (workOf f a) (refusedKind f 5 0) (work-vouched f a) (refused-vouched f 5 0)) (refused-vouched f (formOf f request) 0)

@@ -15,11 +15,11 @@ use Rattle.eigen.specs.Eigen3x3.{eigenOf}
 use Rattle.eigen.specs.Reversed.{negated, AllDiffer, ValuesExchanged, ColumnsExchanged, Reversed}
 use Rattle.eigen.proofs.Reversed.{reversed}
 use Rattle.eigen.specs.declared.eigen3x3.Eigen3.{Eigen3}
-use Rattle.kinds.specs.Work.{firstOf, markOf, fromEigen3, refusedKind, workOf}
+use Rattle.kinds.specs.Work.{firstOf, markOf, fromEigen3, refusedKind, usedFinite, answeredBy, workOf}
 use Rattle.kinds.specs.declared.work.Worked.{Worked}
 use Rattle.record.specs.Layout.{numberBytes, nineAt, threeAt, placeOf, requestSize, answerSize}
 use Rattle.record.specs.Bytes.{wordOf, part, numberAt, numbersFrom, allZero, zeroFrom}
-use Rattle.record.specs.Request.{kindOf, reservedZero, formOf, usedFinite, judgedOf}
+use Rattle.record.specs.Request.{kindOf, askedOf, reservedZero, formOf, judgedOf}
 use Rattle.record.specs.Answer.{recordOf, answeredOf}
 use Rattle.record.proofs.Words.{word-below}
 use Rattle.record.proofs.Answers.{code-in-place}
@@ -172,6 +172,9 @@ module _ (f : Format) (a0 a1 a2 a3 a5 a6 a7 : ℕ) (body : List ℕ) (size : len
       tabulate-same 6 (numberIn other) (λ (i : ℕ). neg (at (tabulate 6 (numberIn body)) i))
       (λ i l. number-negated i l ∙ ap neg (sym (at-tabulate 6 (numberIn body) i l)))
 
+  six-firsts : firstOf 6 (tabulate 9 (numberIn other)) ≡ negated (firstOf 6 (tabulate 9 (numberIn body)))
+  six-firsts = first-tabulate 6 9 (numberIn other) (omega arith) ∙ six-negated ∙ ap negated (sym (first-tabulate 6 9 (numberIn body) (omega arith)))
+
   same-form : formOf f (request other) ≡ formOf f (request body)
   unfolding formOf
   same-form =
@@ -185,24 +188,16 @@ module _ (f : Format) (a0 a1 a2 a3 a5 a6 a7 : ℕ) (body : List ℕ) (size : len
           let q : placeOf f (threeAt f) 0 ≡ 8 + (width f * 9 + width f * 0) = omega arith in
           ap (λ (k : ℕ). drop k (request other)) q ∙ same-behind (width f * 9 + width f * 0) (omega arith) ∙ ap (λ (k : ℕ). drop k (request body)) (sym q)
 
-  same-used : usedFinite f 2 (request other) ≡ usedFinite f 2 (request body)
+  same-used : usedFinite (askedOf f (request other)) ≡ usedFinite (askedOf f (request body))
   unfolding allFinite
-  same-used =
-      ap (λ (t : Bool). t && true)
-      (ap allFinite six-negated ∙ all-finite-neg 6 (at (tabulate 6 (numberIn body))) ∙ ap allFinite (first-tabulate 6 6 (numberIn body) (omega arith)))
+  same-used = ap (λ (t : Bool). t && true) (ap allFinite six-firsts ∙ all-finite-neg 6 (at (firstOf 6 (tabulate 9 (numberIn body)))))
 
-  abbrev workIn : List ℕ → Worked
-  workIn b = workOf f 2 (numbersFrom f 9 nineAt (request b)) (numbersFrom f 3 (threeAt f) (request b))
-
-  work-alike : Alike (workIn body) (workIn other)
-  unfolding workOf
+  work-alike : Alike (workOf f (askedOf f (request body))) (workOf f (askedOf f (request other)))
+  unfolding answeredBy
   work-alike =
-      let a = tabulate 6 (numberIn body) in
-      let firsts : firstOf 6 (tabulate 9 (numberIn other)) ≡ negated (firstOf 6 (tabulate 9 (numberIn body))) =
-      first-tabulate 6 9 (numberIn other) (omega arith) ∙ six-negated ∙ ap negated (sym (first-tabulate 6 9 (numberIn body) (omega arith))) in
-      eigen-alike f (eigenOf f (firstOf 6 (tabulate 9 (numberIn body)))) (eigenOf f (firstOf 6 (tabulate 9 (numberIn other))))
-      (subst (λ (y : List Float). Reversed (eigenOf f (firstOf 6 (tabulate 9 (numberIn body)))) (eigenOf f y)) (sym firsts)
-      (reversed f (firstOf 6 (tabulate 9 (numberIn body))) refl))
+      let a = firstOf 6 (tabulate 9 (numberIn body)) in
+      eigen-alike f (eigenOf f a) (eigenOf f (firstOf 6 (tabulate 9 (numberIn other))))
+      (subst (λ (y : List Float). Reversed (eigenOf f a) (eigenOf f y)) (sym six-firsts) (reversed f a refl))
 
   -- the same tests on both sides, so the same side of each choice is taken
   both-chosen : (t : Bool) (x y z : Worked) → Alike x y → (t ≡ false → Alike z z) → Alike (pick t x z) (pick t y z)
@@ -215,7 +210,7 @@ module _ (f : Format) (a0 a1 a2 a3 a5 a6 a7 : ℕ) (body : List ℕ) (size : len
       let k = formOf f (request body) in
       rw (same-form, same-used)
       (both-chosen (eqb k 0) _ _ _
-      (both-chosen (usedFinite f 2 (request body)) _ _ _ work-alike (λ _. refused-alike f 5 (λ e. absurd (omega arith))))
+      (both-chosen (usedFinite (askedOf f (request body))) _ _ _ work-alike (λ _. refused-alike f 5 (λ e. absurd (omega arith))))
       (λ e. refused-alike f k (eqb-false k 0 e)))
 
   reversed-request : ReversedRecords f (request body) (flipped f (request body))

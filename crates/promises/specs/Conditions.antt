@@ -1,137 +1,117 @@
--- The scope's table of the numbers that answer, for a record: each row's condition as it is read off the bytes, and the order of the rows. Definitions only.
+-- The scope's table of the numbers that answer, for a record: each row's condition as it is read off the bytes, in the order of the rows. Definitions only.
 use mathlib.Core.Path.{_≡_}
-use mathlib.Core.Bool.{Bool, true, false, not, _&&_}
-use mathlib.Core.List.{List, [], _++_}
-use Prim.Native.Nat.{ℕ}
-use lib.Dec.{eqb}
-use lib.ListN.{length}
+use mathlib.Core.Bool.{true}
+use mathlib.Core.List.{List, [], _∷_, _++_}
+use mathlib.Core.Logic.{_⊎_}
+use Prim.Native.Nat.{ℕ, _≤_, _<_}
+use lib.ListN.{getD}
 use lib.Ieee.{Float, Format}
-use Rattle.float.specs.Choice.{pick}
-use Rattle.float.specs.Exactly.{Exactly}
-use Rattle.float.specs.Sign.{allFinite}
+use Rattle.float.specs.Sign.{finite}
 use Rattle.matrix.specs.Places.{zeros}
+use Rattle.matrix.specs.Rows.{Row, on, Gives, WrongLength, NotFinite, NotAbove}
 use Rattle.cholesky.specs.Factor.{steps2Of, steps3Of}
-use Rattle.cholesky.specs.Pivots.{pivots2Of, pivots3Of, oneAtMostZero, refusedPivot}
+use Rattle.cholesky.specs.Pivots.{pivots2Of, pivots3Of, refusedPivot}
 use Rattle.cholesky.specs.Solve.{solution2Of, solution3Of}
 use Rattle.eigen.specs.Eigen2x2 as eigen2
 use Rattle.eigen.specs.Eigen3x3 as eigen3
 use Rattle.svd.specs.Svd2x2 as svd2
 use Rattle.svd.specs.Svd3x3 as svd3
-use Rattle.kinds.specs.Slots.{knownKind}
+use Rattle.kinds.specs.Table.{kinds, kindNumbered}
 use Rattle.kinds.specs.Work.{firstOf}
-use Rattle.record.specs.Layout.{nineAt, threeAt, requestSize, answerSize}
-use Rattle.record.specs.Bytes.{numbersFrom}
-use Rattle.record.specs.Request.{kindOf, reservedZero, unusedZero, usedFinite, judgedOf}
+use Rattle.kinds.specs.declared.table.Kind.{Kind}
+use Rattle.kinds.specs.declared.table.Kernel.{Kernel}
+use Rattle.kinds.specs.declared.table.Kernel.the-variants.{Eigen2x2, Eigen3x3, Svd2x2, Svd3x3, Factor2x2, Factor3x3, Solve2x2, Solve3x3, Unknown}
+use Rattle.kinds.specs.declared.work.Asked.{Asked}
+use Rattle.record.specs.Layout.{wayAt, nineAt, threeAt, placeOf, requestSize, answerSize}
+use Rattle.record.specs.Bytes.{numberAt}
+use Rattle.record.specs.Request.{kindOf, askedOf, judgedOf}
 use Rattle.record.specs.Answer.{recordStepOf}
 
--- ---- 6: the pivots of each kind. One counts only if those before it are above zero; if one of them is not, that is a 6 already.
+-- ---- 3: the number of a kind is that of no row of the table
 
-abbrev pub pivotsOf : Format → ℕ → List Float → List Float
-pivotsOf f kind nine =
-    pick (eqb kind 5) (pivots2Of f (firstOf 3 nine))
-    (pick (eqb kind 6) (pivots3Of f (firstOf 6 nine))
-    (pick (eqb kind 7) (pivots2Of f (firstOf 3 nine))
-    (pick (eqb kind 8) (pivots3Of f (firstOf 6 nine)) [])))
+abbrev pub NoneOf : List Kind → ℕ → Type 0
+NoneOf [] n = Unit {0}
+NoneOf (k ∷ ks) n = (n ≡ k .number → ⊥) × NoneOf ks n
 
--- ---- 7: the numbers of the answer, and for the 3x3 kinds 2 and 4 the worked matrix, among whose numbers the values are, or their magnitudes
+-- ---- 4: bytes that are to be zero, the reserved ones and those of the numbers that the kind does not use
 
-abbrev pub numbersOf : Format → ℕ → List Float → List Float → List Float
-numbersOf f kind nine three =
-    let a2 = firstOf 3 nine in
-    let a3 = firstOf 6 nine in
-    let l2 = steps2Of f (zeros f 3) a2 .factor in
-    let l3 = steps3Of f (zeros f 6) a3 .factor in
-    pick (eqb kind 1) (eigen2.numbers2Of (eigen2.solved2 f a2))
-    (pick (eqb kind 2) (eigen3.numbersOf (eigen3.lastOf f a3))
-    (pick (eqb kind 3) (svd2.numbers2Of (svd2.factors2Of (svd2.sides2Of f (firstOf 4 nine))))
-    (pick (eqb kind 4) (svd3.numbersOf (svd3.lastOf f (firstOf 9 nine)))
-    (pick (eqb kind 5) l2
-    (pick (eqb kind 6) l3
-    (pick (eqb kind 7) (l2 ++ solution2Of f l2 (firstOf 2 three))
-    (pick (eqb kind 8) (l3 ++ solution3Of f l3 (firstOf 3 three)) [])))))))
+abbrev pub Within : ℕ → ℕ → ℕ → Type 0
+Within a e i = (a ≤ i) × (i < e)
+
+abbrev pub Unused : Format → Kind → ℕ → Type 0
+Unused f k i =
+    Within wayAt nineAt i ⊎ (Within (placeOf f nineAt (k .nine)) (threeAt f) i ⊎ Within (placeOf f (threeAt f) (k .three)) (requestSize f) i)
+
+abbrev pub NotZero : Format → Kind → List ℕ → Type 0
+NotZero f k s = ((i : ℕ) → Unused f k i → getD s i 0 ≡ 0) → ⊥
+
+-- ---- 5: a number that the kind uses is NaN or infinite
+
+-- the first n numbers from byte a on are finite
+abbrev pub FiniteFrom : Format → ℕ → ℕ → List ℕ → Type 0
+FiniteFrom f a n s = (i : ℕ) → i < n → finite (numberAt f (placeOf f a i) s) ≡ true
+
+abbrev pub UsedNotFinite : Format → Kind → List ℕ → Type 0
+UsedNotFinite f k s = FiniteFrom f nineAt (k .nine) s × FiniteFrom f (threeAt f) (k .three) s → ⊥
+
+-- ---- 6: the pivots of each kernel. One counts only if those before it are above zero; if one of them is not, that is a 6 already.
+
+abbrev pub pivotsOf : Format → Kernel → Asked → List Float
+pivotsOf f Eigen2x2 a = []
+pivotsOf f Eigen3x3 a = []
+pivotsOf f Svd2x2 a = []
+pivotsOf f Svd3x3 a = []
+pivotsOf f Factor2x2 a = pivots2Of f (firstOf 3 (a .nine))
+pivotsOf f Factor3x3 a = pivots3Of f (firstOf 6 (a .nine))
+pivotsOf f Solve2x2 a = pivots2Of f (firstOf 3 (a .nine))
+pivotsOf f Solve3x3 a = pivots3Of f (firstOf 6 (a .nine))
+pivotsOf f Unknown a = []
+
+-- ---- 7: the numbers of the answer, and for the 3x3 kernels of eigen and svd the worked matrix, among whose numbers the values are, or their magnitudes
+
+abbrev pub factor2 : Format → Asked → List Float
+factor2 f a = steps2Of f (zeros f 3) (firstOf 3 (a .nine)) .factor
+
+abbrev pub factor3 : Format → Asked → List Float
+factor3 f a = steps3Of f (zeros f 6) (firstOf 6 (a .nine)) .factor
+
+abbrev pub numbersOf : Format → Kernel → Asked → List Float
+numbersOf f Eigen2x2 a = eigen2.numbers2Of (eigen2.solved2 f (firstOf 3 (a .nine)))
+numbersOf f Eigen3x3 a = eigen3.numbersOf (eigen3.lastOf f (firstOf 6 (a .nine)))
+numbersOf f Svd2x2 a = svd2.numbers2Of (svd2.factors2Of (svd2.sides2Of f (firstOf 4 (a .nine))))
+numbersOf f Svd3x3 a = svd3.numbersOf (svd3.lastOf f (firstOf 9 (a .nine)))
+numbersOf f Factor2x2 a = factor2 f a
+numbersOf f Factor3x3 a = factor3 f a
+numbersOf f Solve2x2 a = factor2 f a ++ solution2Of f (factor2 f a) (firstOf 2 (a .three))
+numbersOf f Solve3x3 a = factor3 f a ++ solution3Of f (factor3 f a) (firstOf 3 (a .three))
+numbersOf f Unknown a = []
 
 -- ---- the rows
 
-module _ (f : Format) (request answer : List ℕ) where
-  -- the twelve numbers of the request
-  abbrev pub nineOf : List Float
-  nineOf = numbersFrom f 9 nineAt request
+abbrev pub rows : Format → List ℕ → List ℕ → List Row
+rows f request answer =
+    let k = kindNumbered (kindOf request) in
+    -- the output slice has a wrong length
+    on 2 (WrongLength answer (answerSize f))
+    -- the input slice has a wrong length
+    ∷ on 1 (WrongLength request (requestSize f))
+    -- the kind byte is the number of no kind
+    ∷ on 3 (NoneOf kinds (kindOf request))
+    -- a reserved byte or an unused number is not all zero bits
+    ∷ on 4 (NotZero f k request)
+    -- a used input number is NaN or infinite
+    ∷ on 5 (UsedNotFinite f k request)
+    -- a pivot is at most zero
+    ∷ on 6 (NotAbove f (pivotsOf f (k .kernel) (askedOf f request)))
+    -- a number of the answer, the worked matrix included, is NaN or infinite
+    ∷ on 7 (NotFinite (numbersOf f (k .kernel) (askedOf f request)))
+    ∷ []
 
-  abbrev pub threeOf : List Float
-  threeOf = numbersFrom f 3 (threeAt f) request
-
-  -- 2: the output slice has a wrong length
-  abbrev pub outputLength : Bool
-  outputLength = not (eqb (length answer) (answerSize f))
-
-  -- 1: the input slice has a wrong length
-  abbrev pub inputLength : Bool
-  inputLength = not (eqb (length request) (requestSize f))
-
-  -- 3: the kind byte is not 1 to 8
-  abbrev pub unknownKind : Bool
-  unknownKind = not (knownKind (kindOf request))
-
-  -- 4: a reserved byte or an unused number slot is not all zero bits
-  abbrev pub notZero : Bool
-  notZero = not (reservedZero request && unusedZero f (kindOf request) request)
-
-  -- 5: a used input number is NaN or infinite
-  abbrev pub inputNotFinite : Bool
-  inputNotFinite = not (usedFinite f (kindOf request) request)
-
-  -- 6: a pivot is <= 0
-  abbrev pub pivotNotAbove : Bool
-  pivotNotAbove = oneAtMostZero f (pivotsOf f (kindOf request) nineOf)
-
-  -- 7: a number of the answer, the worked matrix included, is NaN or infinite
-  abbrev pub answerNotFinite : Bool
-  answerNotFinite = not (allFinite (numbersOf f (kindOf request) nineOf threeOf))
-
--- ---- each number is given exactly when its row holds and no row before it does
-
-abbrev pub Holds : Bool → Type 0
-Holds t = t ≡ true
-
-abbrev pub Fails : Bool → Type 0
-Fails t = t ≡ false
-
-module _ (f : Format) (request answer : List ℕ) where
-  abbrev Gives : ℕ → Type 0
-  Gives k = recordStepOf f request answer .code ≡ k
-
-  -- the rows by their numbers
-  abbrev c1 : Bool
-  c1 = inputLength f request answer
-
-  abbrev c2 : Bool
-  c2 = outputLength f request answer
-
-  abbrev c3 : Bool
-  c3 = unknownKind f request answer
-
-  abbrev c4 : Bool
-  c4 = notZero f request answer
-
-  abbrev c5 : Bool
-  c5 = inputNotFinite f request answer
-
-  abbrev c6 : Bool
-  c6 = pivotNotAbove f request answer
-
-  abbrev c7 : Bool
-  c7 = answerNotFinite f request answer
-
-  pub record Codes : Type 0 where
-    pub two : Exactly (Gives 2) (Holds c2)
-    pub one : Exactly (Gives 1) (Fails c2 × Holds c1)
-    pub three : Exactly (Gives 3) (Fails c2 × (Fails c1 × Holds c3))
-    pub four : Exactly (Gives 4) (Fails c2 × (Fails c1 × (Fails c3 × Holds c4)))
-    pub five : Exactly (Gives 5) (Fails c2 × (Fails c1 × (Fails c3 × (Fails c4 × Holds c5))))
-    pub six : Exactly (Gives 6) (Fails c2 × (Fails c1 × (Fails c3 × (Fails c4 × (Fails c5 × Holds c6)))))
-    pub seven : Exactly (Gives 7) (Fails c2 × (Fails c1 × (Fails c3 × (Fails c4 × (Fails c5 × (Fails c6 × Holds c7))))))
-    pub zero : Exactly (Gives 0) (Fails c2 × (Fails c1 × (Fails c3 × (Fails c4 × (Fails c5 × (Fails c6 × Fails c7))))))
+-- the code that is handed back is that of the first row that holds, and 0 where none does
+abbrev pub Codes : Format → List ℕ → List ℕ → Type 0
+Codes f request answer = Gives (rows f request answer) (recordStepOf f request answer .code)
 
 -- with 6 the answer has the number of the first pivot that is at most zero; `recordOf` puts it in byte 6
 abbrev pub PivotGiven : Format → List ℕ → Type 0
-PivotGiven f request = judgedOf f request .code ≡ 6 → judgedOf f request .count ≡ refusedPivot f 1 (pivotsOf f (kindOf request) (nineOf f request []))
+PivotGiven f request =
+    judgedOf f request .code ≡ 6 → judgedOf f request .count ≡ refusedPivot f 1 (pivotsOf f (kindNumbered (kindOf request) .kernel) (askedOf f request))

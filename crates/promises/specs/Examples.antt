@@ -56,7 +56,7 @@ old n = replicate n 0x4008000000000000
 
 abbrev pub answerTo : Asked → List ℕ → List ℕ → Shown
 answerTo root nine three = ofRoot (floats nine)
-answerTo (kind k) nine three = ofKind (workOf binary64 k (floats nine) (floats three))
+answerTo (kind k) nine three = ofKind (workOf binary64 (record { kind = k; way = 0; nine = floats nine; three = floats three }))
 answerTo factor2 nine three = ofFactor (factor2Of binary64 (floats (old 3)) (floats nine))
 answerTo factor3 nine three = ofFactor (factor3Of binary64 (floats (old 6)) (floats nine))
 

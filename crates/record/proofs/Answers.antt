@@ -3,15 +3,13 @@ use Rattle.float.proofs.Words.{_≡_, refl, sym, ap, _∙_, true, List, _∷_, 
 use Rattle.float.proofs.Words.{length, getD, take, drop, replicate, length-append, length-take, length-drop, replicate-append-replicate, length-take-le}
 use Rattle.float.proofs.Words.{getD-append-add, drop-append-add, drop-drop, Format, eq-eqb, ne-eqb}
 use Rattle.float.proofs.Choice.{chosen, by-eqb}
-use Rattle.kinds.specs.Work.{refusedKind, workOf}
+use Rattle.kinds.specs.Work.{refusedKind, usedFinite, workOf}
 use Rattle.kinds.proofs.Works.{Sized, work-sized, Clear, work-clear, work-five}
 use Rattle.kinds.specs.declared.work.Worked.{Worked}
-use Rattle.record.specs.Layout.{numberBytes, eventBytes, numbersAt, nineAt, threeAt, requestSize, codeAt, answerSize}
-use Rattle.record.specs.Bytes.{numbersFrom}
-use Rattle.record.specs.Request.{kindOf, formOf, usedFinite, judgedOf}
+use Rattle.record.specs.Layout.{numberBytes, eventBytes, numbersAt, requestSize, codeAt, answerSize}
+use Rattle.record.specs.Request.{kindOf, askedOf, formOf, judgedOf}
 use Rattle.record.specs.Answer.{recordOf, Step, recordStepOf}
 use Rattle.record.specs.Stream.{requestOf, answersOf}
-use Rattle.record.proofs.Used.{used-numbers}
 use Rattle.record.proofs.Numbers.{numbers-length, zeros-bytes}
 
 -- ---- a request of the right size
@@ -20,14 +18,14 @@ judged-sized : (f : Format) (s : List ℕ) → Sized (judgedOf f s)
 unfolding judgedOf
 judged-sized f s =
     chosen Sized (eqb (formOf f s) 0) _ _
-    (chosen Sized (usedFinite f (kindOf s) s) _ _ (work-sized f (kindOf s) (numbersFrom f 9 nineAt s) (numbersFrom f 3 (threeAt f) s)) (refl, refl, refl))
+    (chosen Sized (usedFinite (askedOf f s)) _ _ (work-sized f (askedOf f s)) (refl, refl, refl))
     (refl, refl, refl)
 
 judged-clear : (f : Format) (s : List ℕ) → Clear f (judgedOf f s)
 unfolding judgedOf
 judged-clear f s =
     chosen (Clear f) (eqb (formOf f s) 0) _ _
-    (chosen (Clear f) (usedFinite f (kindOf s) s) _ _ (work-clear f (kindOf s) (numbersFrom f 9 nineAt s) (numbersFrom f 3 (threeAt f) s)) (λ _. refl))
+    (chosen (Clear f) (usedFinite (askedOf f s)) _ _ (work-clear f (askedOf f s)) (λ _. refl))
     (λ _. refl)
 
 event-length : (f : Format) (s : List ℕ) → length s ≡ requestSize f → length (take eventBytes s) ≡ 4
@@ -103,11 +101,8 @@ refused-clear f s a h k = sym (drop-drop 1 7 (recordStepOf f s a .answer)) ∙ a
 
 -- ---- after the record's test no kernel gives 5
 
-pub five-is-the-test : (f : Format) (s : List ℕ) → usedFinite f (kindOf s) s ≡ true
-    → workOf f (kindOf s) (numbersFrom f 9 nineAt s) (numbersFrom f 3 (threeAt f) s) .code ≡ 5 → ⊥
-five-is-the-test f s h =
-    let used = used-numbers f (kindOf s) s h in
-    work-five f (kindOf s) (numbersFrom f 9 nineAt s) (numbersFrom f 3 (threeAt f) s) (used .0) (used .1)
+pub five-is-the-test : (f : Format) (s : List ℕ) → usedFinite (askedOf f s) ≡ true → workOf f (askedOf f s) .code ≡ 5 → ⊥
+five-is-the-test f s = work-five f (askedOf f s)
 
 -- ---- many answers have the size of so many
 

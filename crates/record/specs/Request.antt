@@ -6,15 +6,20 @@ use lib.Dec.{eqb}
 use lib.ListN.{length, getD}
 use lib.Ieee.{Format}
 use Rattle.float.specs.Choice.{pick}
-use Rattle.float.specs.Sign.{allFinite}
-use Rattle.kinds.specs.Slots.{knownKind, nineUsed, threeUsed}
-use Rattle.kinds.specs.Work.{refusedKind, workOf}
+use Rattle.kinds.specs.Table.{kindNumbered, knownKind}
+use Rattle.kinds.specs.Work.{refusedKind, usedFinite, workOf}
+use Rattle.kinds.specs.declared.table.Kind.{Kind}
+use Rattle.kinds.specs.declared.work.Asked.{Asked}
 use Rattle.kinds.specs.declared.work.Worked.{Worked}
 use Rattle.record.specs.Layout.{kindAt, wayAt, nineAt, threeAt, placeOf, requestSize}
 use Rattle.record.specs.Bytes.{numbersFrom, zeroFrom}
 
 abbrev pub kindOf : List ℕ → ℕ
 kindOf s = getD s kindAt 0
+
+-- kind, way and numbers
+abbrev pub askedOf : Format → List ℕ → Asked
+askedOf f s = record { kind = kindOf s; way = getD s wayAt 0; nine = numbersFrom f 9 nineAt s; three = numbersFrom f 3 (threeAt f) s }
 
 -- ---- the tests of 3 and 4: 0, 3 or 4
 
@@ -23,27 +28,18 @@ abbrev pub reservedZero : List ℕ → Bool
 reservedZero s = zeroFrom wayAt nineAt s
 
 -- so is every number that the kind does not use
-abbrev pub unusedZero : Format → ℕ → List ℕ → Bool
-unusedZero f kind s = zeroFrom (placeOf f nineAt (nineUsed kind)) (threeAt f) s && zeroFrom (placeOf f (threeAt f) (threeUsed kind)) (requestSize f) s
+abbrev pub unusedZero : Format → Kind → List ℕ → Bool
+unusedZero f k s = zeroFrom (placeOf f nineAt (k .nine)) (threeAt f) s && zeroFrom (placeOf f (threeAt f) (k .three)) (requestSize f) s
 
 unfoldable pub formOf : Format → List ℕ → ℕ
-formOf f s = pick (knownKind (kindOf s)) (pick (reservedZero s && unusedZero f (kindOf s) s) 0 4) 3
+formOf f s = pick (knownKind (kindOf s)) (pick (reservedZero s && unusedZero f (kindNumbered (kindOf s)) s) 0 4) 3
 
 -- the same of a slice of any size: 1 comes first
 unfoldable pub sizedFormOf : Format → List ℕ → ℕ
 sizedFormOf f s = pick (eqb (length s) (requestSize f)) (formOf f s) 1
 
--- ---- the test of 5
-
-abbrev pub usedFinite : Format → ℕ → List ℕ → Bool
-usedFinite f kind s = allFinite (numbersFrom f (nineUsed kind) nineAt s) && allFinite (numbersFrom f (threeUsed kind) (threeAt f) s)
-
--- ---- the kernel's answer, if the tests let it be asked
+-- ---- the test of 5, and the kernel's answer if the tests let it be asked
 
 unfoldable pub judgedOf : Format → List ℕ → Worked
 judgedOf f s =
-    pick (eqb (formOf f s) 0)
-    (pick (usedFinite f (kindOf s) s)
-    (workOf f (kindOf s) (numbersFrom f 9 nineAt s) (numbersFrom f 3 (threeAt f) s))
-    (refusedKind f 5 0))
-    (refusedKind f (formOf f s) 0)
+    pick (eqb (formOf f s) 0) (pick (usedFinite (askedOf f s)) (workOf f (askedOf f s)) (refusedKind f 5 0)) (refusedKind f (formOf f s) 0)

@@ -9,9 +9,9 @@ use crate::layout::WAY_AT;
 use float::sign::all_finite;
 use float::width::NUMBER_SIZE;
 use float::width::Real;
-use kinds::slots::is_known;
-use kinds::slots::nine_used;
-use kinds::slots::three_used;
+use kinds::table::is_known;
+use kinds::table::kind_numbered;
+use kinds::work::Asked;
 use kinds::work::Worked;
 use kinds::work::refused;
 use kinds::work::work;
@@ -26,7 +26,7 @@ ghost use Prim.Native.Nat.{_≤_, _<_};
 ghost use lib.ListN.{length, take};
 ghost use Rattle.float.specs.Width.{F};
 ghost use Rattle.float.specs.Sign.{allFinite};
-ghost use Rattle.kinds.specs.Slots.{nineUsed, threeUsed};
+ghost use Rattle.kinds.specs.Table.{kindNumbered};
 ghost use Rattle.record.specs.Layout.{nineAt, threeAt, placeOf, requestSize};
 ghost use Rattle.record.specs.Bytes.{numberAt, numbersFrom};
 ghost use Rattle.record.specs.Request.{reservedZero, unusedZero, formOf, sizedFormOf, judgedOf};
@@ -34,10 +34,11 @@ ghost use Rattle.record.specs.Request.{reservedZero, unusedZero, formOf,
 // Whether the reserved bytes and the numbers that the kind doesn't use are all zero bits.
 fn unused_zero(s: &[u8], kind: u8) -> bool
     requires { ⌜ length (now s) ≡ requestSize F ⌝ }
-    ensures { λ r. ⌜ r ≡ (reservedZero (now (s .entry)) && unusedZero F kind (now (s .entry))) ⌝ }
+    ensures { λ r. ⌜ r ≡ (reservedZero (now (s .entry)) && unusedZero F (kindNumbered kind) (now (s .entry))) ⌝ }
 {
-    let n = nine_used(kind);
-    let t = three_used(kind);
+    let k = kind_numbered(kind);
+    let n = k.nine;
+    let t = k.three;
     if zeros_in(s, WAY_AT, NUMBERS_AT) {
         if zeros_in(s, NUMBERS_AT + NUMBER_SIZE * n, THREE_AT) {
             return zeros_in(s, THREE_AT + NUMBER_SIZE * t, REQUEST_SIZE);
@@ -112,10 +113,13 @@ fn first_finite(xs: &[Real], n: usize) -> bool
 
 // Whether the numbers that the kind uses are finite.
 fn used_finite(kind: u8, nine: [Real; 9], three: [Real; 3]) -> bool
-    ensures { λ r. ⌜ r ≡ (allFinite (take (nineUsed kind) nine) && allFinite (take (threeUsed kind) three)) ⌝ }
+    ensures { λ r. ⌜ r ≡ (allFinite (take (kindNumbered kind .nine) nine) && allFinite (take (kindNumbered kind .three) three)) ⌝ }
 {
-    if first_finite(&nine, nine_used(kind)) {
-        return first_finite(&three, three_used(kind));
+    let k = kind_numbered(kind);
+    let n = k.nine;
+    let t = k.three;
+    if first_finite(&nine, n) {
+        return first_finite(&three, t);
     }
     false
 }
@@ -130,10 +134,16 @@ pub(crate) fn judged(s: &[u8]) -> Worked
         return refused(code, 0);
     }
     let kind = s[KIND_AT];
+    let way = s[WAY_AT];
     let nine = numbers9(s);
     let three = numbers3(s);
     if used_finite(kind, nine, three) {
-        return work(kind, nine, three);
+        return work(Asked {
+            kind,
+            way,
+            nine,
+            three,
+        });
     }
     refused(INPUT_NOT_FINITE, 0)
 }

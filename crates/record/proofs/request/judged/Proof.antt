@@ -1,7 +1,8 @@
 -- A form that is not 0 is the answer; after it the finite test decides, over the first of all the numbers.
 use Rattle.float.proofs.Words.{_≡_, sym, _∙_, true, false, eq-eqb, ne-eqb, needs}
 use Rattle.float.specs.Width.{F}
-use Rattle.record.specs.Request.{kindOf, usedFinite, judgedOf}
+use Rattle.kinds.specs.Work.{usedFinite}
+use Rattle.record.specs.Request.{askedOf, judgedOf}
 use Rattle.record.proofs.Used.{used-first}
 use Rattle.record.proofs.request.judged.Statement.{statement}
 use Rattle.record.proofs.request.judged.Tie as tie
@@ -10,25 +11,27 @@ returns-2 : tie.Need-returns-2
 unfolding judgedOf
 returns-2 c =
     let numbers = c .before .before .before in
-    let s = numbers .before .before .before .before .before .before .args .s .now in
-    let used : usedFinite F (kindOf s) s ≡ true =
-    sym (used-first F (kindOf s) s)
+    let s = numbers .before .before .before .before .before .before .before .args .s .now in
+    let used : usedFinite (askedOf F s) ≡ true =
+    sym (used-first F s)
     ∙ (cc (c .before .before .used-finite .ensures, c .before .if2 .taken, numbers .numbers3 .ensures, numbers .before .numbers9 .ensures)) in
-    rw (← numbers .before .before .before .before .form-of .ensures, eq-eqb _ 0 (numbers .before .before .before .if1 .left), used)
+    rw (← numbers .before .before .before .before .before .form-of .ensures, eq-eqb _ 0 (numbers .before .before .before .before .if1 .left), used)
     (rw (← numbers .before .numbers9 .ensures, ← numbers .numbers3 .ensures) (c .work .ensures))
 
 returns-3 : tie.Need-returns-3
 unfolding judgedOf
 returns-3 c =
     let numbers = c .before .before .before in
-    let s = numbers .before .before .before .before .before .before .args .s .now in
-    let used : usedFinite F (kindOf s) s ≡ false =
-    sym (used-first F (kindOf s) s)
+    let s = numbers .before .before .before .before .before .before .before .args .s .now in
+    let used : usedFinite (askedOf F s) ≡ false =
+    sym (used-first F s)
     ∙ (cc (c .before .before .used-finite .ensures, c .before .if2 .left, numbers .numbers3 .ensures, numbers .before .numbers9 .ensures)) in
-    rw (← numbers .before .before .before .before .form-of .ensures, eq-eqb _ 0 (numbers .before .before .before .if1 .left), used) (c .refused2 .ensures)
+    rw (← numbers .before .before .before .before .before .form-of .ensures, eq-eqb _ 0 (numbers .before .before .before .before .if1 .left), used)
+    (c .refused2 .ensures)
 
 pub judged-spec : {M : Type 1} → statement M
 judged-spec = tie.close (tie.spec
     (λ c κs. search needs) (λ c κs. search needs)
     (λ c. unfold judgedOf in rw (← c .before .before .form-of .ensures, ne-eqb _ 0 (c .before .if1 .taken)) (c .refused .ensures))
-    (λ c. search needs) (λ c κs. search needs) (λ c κs. search needs) (λ c κs. search needs) (λ c κs. search needs) returns-2 (λ c κs. search needs) returns-3)
+    (λ c. search needs) (λ c. search needs)
+    (λ c κs. search needs) (λ c κs. search needs) (λ c κs. search needs) (λ c κs. search needs) returns-2 (λ c κs. search needs) returns-3)

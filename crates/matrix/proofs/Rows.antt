@@ -1,0 +1,65 @@
+-- The first row that holds gives the number: by going down the rows. A test that decides a row's condition takes its number or goes on.
+use Rattle.float.proofs.Words.{_≡_, refl, sym, ap, _∙_, Bool, true, false, not, _&&_, true≢false, false≢true, List, [], _∷_, _⊎_, inl, inr, ⊎-elim, ℕ, zero, suc}
+use Rattle.float.proofs.Words.{_<_, arith, eqb, length, Float, Format, eqb-true, eqb-false}
+use Rattle.float.specs.Choice.{pick}
+use Rattle.float.specs.Exactly.{Exactly}
+use Rattle.float.specs.Sign.{finite, allFinite}
+use Rattle.float.proofs.Choice.{by-eqb}
+use Rattle.float.proofs.Finite.{both-true, at-finite}
+use Rattle.matrix.specs.Rows.{Row, on, Gives, WrongLength, NotFinite, kernelRows, pivotRows}
+use Rattle.matrix.specs.Places.{at}
+
+-- ---- a test and its row
+
+-- t decides X
+abbrev pub Decides : Bool → Type 0 → Type 0
+Decides t X = (t ≡ true → X) × (t ≡ false → X → ⊥)
+
+pub first-row : (t : Bool) (r : Row) (rs : List Row) (k : ℕ) → Decides t (r .Holds) → Gives rs k → Gives (r ∷ rs) (pick t (r .number) k)
+first-row true r rs k d g = inl (d .0 refl, refl)
+first-row false r rs k d g = inr (d .1 refl, g)
+
+-- where the test tells that the row does not hold
+pub last-row : (t : Bool) (r : Row) (rs : List Row) (k : ℕ) → Decides (not t) (r .Holds) → Gives rs k → Gives (r ∷ rs) (pick t k (r .number))
+last-row true r rs k d g = inr (d .1 refl, g)
+last-row false r rs k d g = inl (d .0 refl, refl)
+
+-- ---- the rows leave one number
+
+pub one-number : (rs : List Row) (k m : ℕ) → Gives rs k → Gives rs m → k ≡ m
+one-number [] k m g h = g ∙ sym h
+one-number (r ∷ rs) k m g h =
+    ⊎-elim (λ (x : r .Holds × (k ≡ r .number)). ⊎-elim (λ (y : r .Holds × (m ≡ r .number)). x .1 ∙ sym (y .1))
+    (λ (y : (r .Holds → ⊥) × Gives rs m). absurd (y .0 (x .0))) h)
+    (λ (x : (r .Holds → ⊥) × Gives rs k). ⊎-elim (λ (y : r .Holds × (m ≡ r .number)). absurd (x .0 (y .0)))
+    (λ (y : (r .Holds → ⊥) × Gives rs m). one-number rs k m (x .1) (y .1)) h)
+    g
+
+-- ---- the tests of the code decide the conditions
+
+pub by-length : {A : Type 0} (xs : List A) (n : ℕ) → Decides (not (eqb (length xs) n)) (WrongLength xs n)
+by-length xs n = by (eqb (length xs) n) refl
+  where
+    by : (t : Bool) → eqb (length xs) n ≡ t → Decides (not t) (WrongLength xs n)
+    by true e = ((λ q. absurd (false≢true q)), (λ _ w. w (eqb-true (length xs) n e)))
+    by false e = ((λ _. eqb-false (length xs) n e), (λ q. absurd (true≢false q)))
+
+each-finite : (xs : List Float) → ((i : ℕ) → i < length xs → finite (at xs i) ≡ true) → allFinite xs ≡ true
+unfolding allFinite
+each-finite [] h = refl
+each-finite (x ∷ xs) h = rw (h 0 (omega arith), each-finite xs (λ i l. h (suc i) (omega arith)))
+
+pub by-finite : (xs : List Float) → Decides (not (allFinite xs)) (NotFinite xs)
+by-finite xs = by (allFinite xs) refl
+  where
+    by : (t : Bool) → allFinite xs ≡ t → Decides (not t) (NotFinite xs)
+    by true e = ((λ q. absurd (false≢true q)), (λ _ w. w (at-finite xs e)))
+    by false e = ((λ _ h. false≢true (sym e ∙ each-finite xs h)), (λ q. absurd (true≢false q)))
+
+-- ---- a kernel whose code is known by its tests
+
+pub kernel-codes : (used made : List Float) {k : ℕ} → k ≡ pick (allFinite used) (pick (allFinite made) 0 7) 5 → Gives (kernelRows used made) k
+kernel-codes used made e =
+    let later : List Row = on 7 (NotFinite made) ∷ [] in
+    rw e (last-row (allFinite used) (on 5 (NotFinite used)) later (pick (allFinite made) 0 7) (by-finite used)
+    (last-row (allFinite made) (on 7 (NotFinite made)) [] 0 (by-finite made) refl))
