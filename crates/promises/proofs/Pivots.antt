@@ -10,8 +10,8 @@ use Rattle.cholesky.proofs.Codes.{factor2-pivot, factor3-pivot, solved2-pivot, 
 use Rattle.kinds.specs.Slots.{knownKind, nineUsed, threeUsed}
 use Rattle.kinds.specs.Work.{firstOf, refusedKind, fromFactor, workOf}
 use Rattle.kinds.specs.declared.work.Worked.{Worked}
+use Rattle.wire.specs.Bytes.{numbersFrom}
 use Rattle.record.specs.Layout.{nineAt, threeAt}
-use Rattle.record.specs.Bytes.{numbersFrom}
 use Rattle.record.specs.Request.{kindOf, reservedZero, unusedZero, formOf, usedFinite, judgedOf}
 use Rattle.record.proofs.Used.{used-numbers}
 use Rattle.kinds.proofs.Works.{factor-code}

@@ -19,8 +19,8 @@ use Rattle.svd.specs.declared.svd2x2.Svd2.{Svd2}
 use Rattle.svd.specs.declared.svd3x3.Svd3.{Svd3}
 use Rattle.kinds.specs.Work.{firstOf, padded, refusedKind, fromEigen2, fromEigen3, fromSvd2, fromSvd3, fromFactor, fromSolved, workOf}
 use Rattle.kinds.proofs.Works.{each-kind}
+use Rattle.wire.specs.Bytes.{numbersFrom}
 use Rattle.record.specs.Layout.{nineAt, threeAt}
-use Rattle.record.specs.Bytes.{numbersFrom}
 use Rattle.record.specs.Request.{kindOf, formOf, usedFinite, judgedOf}
 use Rattle.promises.specs.Vouched.{Vouched}
 

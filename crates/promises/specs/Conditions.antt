@@ -19,8 +19,8 @@ use Rattle.svd.specs.Svd2x2 as svd2
 use Rattle.svd.specs.Svd3x3 as svd3
 use Rattle.kinds.specs.Slots.{knownKind}
 use Rattle.kinds.specs.Work.{firstOf}
+use Rattle.wire.specs.Bytes.{numbersFrom}
 use Rattle.record.specs.Layout.{nineAt, threeAt, requestSize, answerSize}
-use Rattle.record.specs.Bytes.{numbersFrom}
 use Rattle.record.specs.Request.{kindOf, reservedZero, unusedZero, usedFinite, judgedOf}
 use Rattle.record.specs.Answer.{recordStepOf}
 

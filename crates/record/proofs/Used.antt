@@ -6,8 +6,8 @@ use Rattle.matrix.proofs.Tables.{take-tabulate, first-tabulate}
 use Rattle.kinds.specs.Slots.{nineUsed, threeUsed}
 use Rattle.kinds.specs.Work.{firstOf}
 use Rattle.kinds.proofs.Most.{nine-most, three-most}
-use Rattle.record.specs.Layout.{nineAt, threeAt, placeOf}
-use Rattle.record.specs.Bytes.{numberAt, numbersFrom}
+use Rattle.wire.specs.Bytes.{placeOf, numberAt, numbersFrom}
+use Rattle.record.specs.Layout.{nineAt, threeAt}
 use Rattle.record.specs.Request.{usedFinite}
 
 pub used-first : (f : Format) (kind : ℕ) (s : List ℕ)

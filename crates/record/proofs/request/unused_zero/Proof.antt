@@ -1,10 +1,10 @@
--- The three tests one after the other; a kind uses at most nine numbers and three, so that each lies in the request.
+-- The three tests one after the other; a kind uses at most nine numbers and three, so that no place is past the request.
 use Rattle.float.proofs.Words.{_≡_, sym, ap, _∙_, true, false, ℕ, _≤_, arith, needs}
 use Rattle.float.specs.Width.{F}
 use Rattle.kinds.specs.Slots.{nineUsed}
-use Rattle.record.specs.Layout.{wayAt, nineAt, threeAt, placeOf, requestSize}
-use Rattle.record.specs.Bytes.{zeroFrom}
 use Rattle.kinds.proofs.Most.{nine-most, three-most}
+use Rattle.wire.specs.Bytes.{placeOf, zeroFrom}
+use Rattle.record.specs.Layout.{wayAt, nineAt, threeAt, requestSize}
 use Rattle.record.proofs.request.unused_zero.Statement.{statement}
 use Rattle.record.proofs.request.unused_zero.Tie as tie
 
@@ -42,9 +42,9 @@ unused-zero-spec = tie.close (tie.spec
     (λ c κs. search needs) (λ c κs. search needs) (λ c κs. search needs)
     (λ c. omega (arith, nine-fit (c .before .before .before)))
     (λ c. omega (arith, nine-fit (c .before .before .before)))
-    (λ c κs. let h = nine-fit (c .before .before .before) in (omega arith, omega arith))
+    (λ c κs. search needs)
     (λ c. omega (arith, three-fit (c .before .before .before .before)))
     (λ c. omega (arith, three-fit (c .before .before .before .before)))
-    (λ c κs. let h = three-fit (c .before .before .before .before) in (omega arith, omega arith))
+    (λ c κs. search needs)
     returns returns-2
     (λ c. rw (sym (c .before .zeros-in .ensures) ∙ c .if1 .left)))
