@@ -258,8 +258,8 @@ reversed-calls κs a b r q x y p w u v n k c e =
     let t = b .0 .now in
     let m : length t ≡ requestSize F = ap length e ∙ flipped-size F s n in
     let h : ReversedRecords F s t = subst (ReversedRecords F s) (sym e) (reversed-records F s n k c) in
-    let l = stepped s (a .1 .0 .now) n u in
-    let o = stepped t (b .1 .0 .now) m v in
+    let l = stepped F s (a .1 .0 .now) n u in
+    let o = stepped F t (b .1 .0 .now) m v in
     let code : List ℕ → ℕ = λ (z : List ℕ). getD z codeAt 0 in (
       p .0 ∙ sym (code-in-place F s (a .1 .0 .now) u) ∙ ap code l ∙ h .codes ∙ sym (ap code o) ∙ code-in-place F t (b .1 .0 .now) v ∙ sym (w .0),
       p .1 ∙ l,

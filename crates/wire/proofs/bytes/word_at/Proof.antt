@@ -1,6 +1,7 @@
 -- The bytes are taken from the last to the first: the word so far is that of the bytes passed, and each adds one in front.
 use Rattle.float.proofs.Words.{_≡_, _∙_, _+_, _-_, _^_, _≤_, _<_, add-zero, sub-zero, arith, needs}
-use Rattle.wire.specs.Bytes.{wordOf, part}
+use Rattle.float.specs.Width.{F}
+use Rattle.wire.specs.Bytes.{numberBytes, wordOf, part}
 use Rattle.wire.proofs.Words.{word-more, word-grows, word-fits}
 use Rattle.wire.proofs.bytes.word_at.Statement.{statement}
 use Rattle.wire.proofs.bytes.word_at.Tie as tie
@@ -22,7 +23,7 @@ mul-w : tie.Need-mul-w Inv-loop μ-loop
 mul-w c =
     let l = c .before .loop in
     let n = c .before .before .before .args .n in
-    omega (arith, word-fits _ _ (omega arith) (word-grows (n - l .i) (n + 1 - l .i) (l .w) 0 (omega arith) (l .inv .2) (omega arith)))
+    omega (arith, word-fits _ (numberBytes F) _ (omega arith) (word-grows (n - l .i) (n + 1 - l .i) (l .w) 0 (omega arith) (l .inv .2) (omega arith)))
 
 add-w : tie.Need-add-w Inv-loop μ-loop
 add-w c =
@@ -30,7 +31,8 @@ add-w c =
     let n = c .before .before .before .before .before .args .n in
     omega (
       arith,
-      word-fits _ _ (omega arith) (word-grows (n - l .i) (n + 1 - l .i) (l .w) (c .wide .result) (omega arith) (l .inv .2) (c .wide .ensures .1)),
+      word-fits _ (numberBytes F) _ (omega arith)
+          (word-grows (n - l .i) (n + 1 - l .i) (l .w) (c .wide .result) (omega arith) (l .inv .2) (c .wide .ensures .1)),
     )
 
 loop-again : tie.Need-loop-again Inv-loop μ-loop
