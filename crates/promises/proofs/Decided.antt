@@ -1,6 +1,7 @@
 -- The tests of the code decide the conditions of rows 3, 4 and 5: a number's row, bytes that are zero and numbers that are finite, one by one.
 use Rattle.float.proofs.Words.{_≡_, refl, sym, ap, _∙_, Bool, true, false, not, _&&_, true≢false, false≢true, List, [], _∷_, _⊎_, inl, inr, ⊎-elim, ℕ, zero}
-use Rattle.float.proofs.Words.{suc, _+_, _-_, _≤_, _<_, arith, eqb, length, getD, take, drop, length-take, getD-take, getD-drop, Float, Format, eqb-true, ne-eqb}
+use Rattle.float.proofs.Words.{suc, _+_, _-_, _≤_, _<_, arith, eqb, length, getD, take, drop, length-take, getD-take, getD-drop, Float, Format, eqb-true}
+use Rattle.float.proofs.Words.{ne-eqb}
 use Rattle.float.specs.Sign.{finite, allFinite}
 use Rattle.float.proofs.Choice.{by-eqb}
 use Rattle.float.proofs.Finite.{both-true, at-finite}
@@ -12,8 +13,8 @@ use Rattle.kinds.specs.Work.{usedFinite}
 use Rattle.kinds.specs.declared.table.Kind.{Kind}
 use Rattle.kinds.proofs.Rows.{nine-most, three-most}
 use Rattle.kinds.proofs.Works.{used}
-use Rattle.record.specs.Layout.{wayAt, nineAt, threeAt, placeOf, requestSize}
-use Rattle.record.specs.Bytes.{numberAt, allZero, zeroFrom}
+use Rattle.wire.specs.Bytes.{placeOf, numberAt, allZero, zeroFrom}
+use Rattle.record.specs.Layout.{wayAt, nineAt, threeAt, requestSize}
 use Rattle.record.specs.Request.{kindOf, askedOf, reservedZero, unusedZero}
 use Rattle.promises.specs.Conditions.{NoneOf, Within, Unused, NotZero, FiniteFrom, UsedNotFinite}
 

@@ -4,8 +4,7 @@ use Rattle.float.proofs.Words.{pow-zero, pow-suc, mul-add, mul-le-mul-left, ari
 use Rattle.float.proofs.Words.{low, ones, hid, top, ofFields, ofBits, le-leb, lt-leb}
 use Rattle.float.proofs.Choice.{by-ltb}
 use Rattle.float.proofs.Negation.{neg-twice}
-use Rattle.record.specs.Bytes.{wordOf}
-use Rattle.record.specs.Layout.{numberBytes}
+use Rattle.wire.specs.Bytes.{numberBytes, wordOf}
 use Rattle.promises.specs.Wiring.{flippedByte}
 
 -- ---- the fields

@@ -17,11 +17,11 @@ use Rattle.eigen.proofs.Reversed.{reversed}
 use Rattle.eigen.specs.declared.eigen3x3.Eigen3.{Eigen3}
 use Rattle.kinds.specs.Work.{firstOf, markOf, fromEigen3, refusedKind, usedFinite, answeredBy, workOf}
 use Rattle.kinds.specs.declared.work.Worked.{Worked}
-use Rattle.record.specs.Layout.{numberBytes, nineAt, threeAt, placeOf, requestSize, answerSize}
-use Rattle.record.specs.Bytes.{wordOf, part, numberAt, numbersFrom, allZero, zeroFrom}
+use Rattle.wire.specs.Bytes.{numberBytes, placeOf, wordOf, part, numberAt, allZero, zeroFrom}
+use Rattle.wire.proofs.Words.{word-below}
+use Rattle.record.specs.Layout.{nineAt, threeAt, requestSize, codeAt, answerSize}
 use Rattle.record.specs.Request.{kindOf, askedOf, reservedZero, formOf, judgedOf}
 use Rattle.record.specs.Answer.{recordOf, answeredOf}
-use Rattle.record.proofs.Words.{word-below}
 use Rattle.record.proofs.Answers.{code-in-place}
 use Rattle.record.proofs.Streams.{stepped}
 use Rattle.record.proofs.answer.zanikory_answer_record.Reads as answer-record
@@ -148,13 +148,13 @@ module _ (f : Format) (a0 a1 a2 a3 a5 a6 a7 : ℕ) (body : List ℕ) (size : len
   abbrev other : List ℕ
   other = flippedNumbers f 6 body
 
-  in-body : (b : List ℕ) (m : ℕ) → drop (8 + m) (request b) ≡ drop m b
-  in-body b m = sym (drop-drop m 8 (request b))
+  in-body : (b : List ℕ) (m : ℕ) → drop (nineAt + m) (request b) ≡ drop m b
+  in-body b m = sym (drop-drop m nineAt (request b))
 
-  same-behind : (m : ℕ) → width f * 6 ≤ m → drop (8 + m) (request other) ≡ drop (8 + m) (request body)
+  same-behind : (m : ℕ) → width f * 6 ≤ m → drop (nineAt + m) (request other) ≡ drop (nineAt + m) (request body)
   same-behind m h =
       let q : m ≡ width f * 6 + (m - width f * 6) = omega arith in
-      let behind : (b : List ℕ) → drop (8 + m) (request b) ≡ drop (m - width f * 6) (drop (width f * 6) b) =
+      let behind : (b : List ℕ) → drop (nineAt + m) (request b) ≡ drop (m - width f * 6) (drop (width f * 6) b) =
       λ (b : List ℕ). in-body b m ∙ ap (λ (k : ℕ). drop k b) q ∙ sym (drop-drop (m - width f * 6) (width f * 6) b) in
       behind other ∙ ap (drop (m - width f * 6)) (rest-same f 6 body (omega arith)) ∙ sym (behind body)
 
@@ -185,7 +185,7 @@ module _ (f : Format) (a0 a1 a2 a3 a5 a6 a7 : ℕ) (body : List ℕ) (size : len
     where
       three-same : drop (placeOf f (threeAt f) 0) (request other) ≡ drop (placeOf f (threeAt f) 0) (request body)
       three-same =
-          let q : placeOf f (threeAt f) 0 ≡ 8 + (width f * 9 + width f * 0) = omega arith in
+          let q : placeOf f (threeAt f) 0 ≡ nineAt + (width f * 9 + width f * 0) = omega arith in
           ap (λ (k : ℕ). drop k (request other)) q ∙ same-behind (width f * 9 + width f * 0) (omega arith) ∙ ap (λ (k : ℕ). drop k (request body)) (sym q)
 
   same-used : usedFinite (askedOf f (request other)) ≡ usedFinite (askedOf f (request body))
@@ -233,15 +233,15 @@ reversed-records f (a0 ∷ a1 ∷ a2 ∷ a3 ∷ a4 ∷ a5 ∷ a6 ∷ []) h k b =
 reversed-records f (a0 ∷ a1 ∷ a2 ∷ a3 ∷ a4 ∷ a5 ∷ a6 ∷ a7 ∷ body) h k b =
     subst (λ (kind : ℕ). ReversedRecords f (a0 ∷ a1 ∷ a2 ∷ a3 ∷ kind ∷ a5 ∷ a6 ∷ a7 ∷ body) (flipped f (a0 ∷ a1 ∷ a2 ∷ a3 ∷ kind ∷ a5 ∷ a6 ∷ a7 ∷ body)))
     (sym k)
-    (reversed-request f a0 a1 a2 a3 a5 a6 a7 body (omega arith) (bytes-drop 8 (a0 ∷ a1 ∷ a2 ∷ a3 ∷ a4 ∷ a5 ∷ a6 ∷ a7 ∷ body) b))
+    (reversed-request f a0 a1 a2 a3 a5 a6 a7 body (omega arith) (bytes-drop nineAt (a0 ∷ a1 ∷ a2 ∷ a3 ∷ a4 ∷ a5 ∷ a6 ∷ a7 ∷ body) b))
 
 -- ---- any two answers within the promise of the record step, of which the second is to the flipped request
 
 flipped-size : (f : Format) (s : List ℕ) → length s ≡ requestSize f → length (flipped f s) ≡ requestSize f
 flipped-size f s h =
-    let first = length-take-le 8 s (omega arith) in
-    let rest = length-drop 8 s in
-    let same = same-length f 6 (drop 8 s) (omega arith) in
+    let first = length-take-le nineAt s (omega arith) in
+    let rest = length-drop nineAt s in
+    let same = same-length f 6 (drop nineAt s) (omega arith) in
     rw length-append (omega arith)
 
 pub reversed-calls : (κs : Lfts 2) (a b : _) (r q : ℕ) (x y : _) → answer-record.Post κs a r x → answer-record.Post κs b q y
@@ -253,9 +253,9 @@ reversed-calls κs a b r q x y p w u v n k c e =
     let t = b .0 .now in
     let m : length t ≡ requestSize F = ap length e ∙ flipped-size F s n in
     let h : ReversedRecords F s t = subst (ReversedRecords F s) (sym e) (reversed-records F s n k c) in
-    let l = stepped s (a .1 .0 .now) n u in
-    let o = stepped t (b .1 .0 .now) m v in
-    let code : List ℕ → ℕ = λ (z : List ℕ). getD z 5 0 in (
+    let l = stepped F s (a .1 .0 .now) n u in
+    let o = stepped F t (b .1 .0 .now) m v in
+    let code : List ℕ → ℕ = λ (z : List ℕ). getD z codeAt 0 in (
       p .0 ∙ sym (code-in-place F s (a .1 .0 .now) u) ∙ ap code l ∙ h .codes ∙ sym (ap code o) ∙ code-in-place F t (b .1 .0 .now) v ∙ sym (w .0),
       p .1 ∙ l,
       w .1 ∙ o,

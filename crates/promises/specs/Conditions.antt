@@ -22,8 +22,8 @@ use Rattle.kinds.specs.declared.table.Kind.{Kind}
 use Rattle.kinds.specs.declared.table.Kernel.{Kernel}
 use Rattle.kinds.specs.declared.table.Kernel.the-variants.{Eigen2x2, Eigen3x3, Svd2x2, Svd3x3, Factor2x2, Factor3x3, Solve2x2, Solve3x3, Unknown}
 use Rattle.kinds.specs.declared.work.Asked.{Asked}
-use Rattle.record.specs.Layout.{wayAt, nineAt, threeAt, placeOf, requestSize, answerSize}
-use Rattle.record.specs.Bytes.{numberAt}
+use Rattle.wire.specs.Bytes.{placeOf, numberAt}
+use Rattle.record.specs.Layout.{wayAt, nineAt, threeAt, requestSize, answerSize}
 use Rattle.record.specs.Request.{kindOf, askedOf, judgedOf}
 use Rattle.record.specs.Answer.{recordStepOf}
 

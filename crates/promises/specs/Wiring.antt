@@ -6,7 +6,8 @@ use Prim.Native.Nat.{ℕ, zero, suc, _+_, _-_, _%_, _<_}
 use lib.ListN.{getD, take, drop}
 use lib.Ieee.{Format}
 use Rattle.eigen.specs.Reversed.{AllDiffer, ValuesExchanged, ColumnsExchanged}
-use Rattle.record.specs.Layout.{numberBytes, nineAt}
+use Rattle.wire.specs.Bytes.{numberBytes}
+use Rattle.record.specs.Layout.{nineAt, codeAt, countAt, markAt}
 use Rattle.record.specs.Request.{judgedOf}
 use Rattle.record.specs.Answer.{answeredOf}
 
@@ -41,8 +42,8 @@ SameByte f k s t = getD (answeredOf f s) k 0 ≡ getD (answeredOf f t) k 0
 
 -- Code, count and mark are the same. With code 0 the values are exchanged and negated; and if no two of them are equal, the columns are exchanged, bit for bit.
 pub record ReversedRecords (f : Format) (s t : List ℕ) : Type 0 where
-  pub codes : SameByte f 5 s t
-  pub counts : SameByte f 6 s t
-  pub marks : SameByte f 7 s t
+  pub codes : SameByte f codeAt s t
+  pub counts : SameByte f countAt s t
+  pub marks : SameByte f markAt s t
   pub values : judgedOf f s .code ≡ 0 → ValuesExchanged (judgedOf f s .values) (judgedOf f t .values)
   pub columns : judgedOf f s .code ≡ 0 → AllDiffer (judgedOf f s .values) → ColumnsExchanged (judgedOf f s .left) (judgedOf f t .left)

@@ -1,4 +1,4 @@
--- Every answer: its size, its code in byte 5, zeros from the mark on where the code is not 0, and 5 only by the record's own test.
+-- Every answer: its size, its code in its byte, zeros from the mark on where the code is not 0, and 5 only by the record's own test.
 use Rattle.float.proofs.Words.{_≡_, refl, sym, ap, _∙_, true, List, _∷_, _⊎_, inl, inr, ⊎-elim, ℕ, zero, suc, _+_, _-_, _*_, _≤_, mul-zero, mul-suc, arith, eqb}
 use Rattle.float.proofs.Words.{length, getD, take, drop, replicate, length-append, length-take, length-drop, replicate-append-replicate, length-take-le}
 use Rattle.float.proofs.Words.{getD-append-add, drop-append-add, drop-drop, Format, eq-eqb, ne-eqb}
@@ -6,11 +6,12 @@ use Rattle.float.proofs.Choice.{chosen, by-eqb}
 use Rattle.kinds.specs.Work.{refusedKind, usedFinite, workOf}
 use Rattle.kinds.proofs.Works.{Sized, work-sized, Clear, work-clear, work-five}
 use Rattle.kinds.specs.declared.work.Worked.{Worked}
-use Rattle.record.specs.Layout.{numberBytes, eventBytes, numbersAt, requestSize, codeAt, answerSize}
+use Rattle.wire.specs.Bytes.{numberBytes}
+use Rattle.wire.proofs.Numbers.{numbers-length, zeros-bytes}
+use Rattle.record.specs.Layout.{eventBytes, numbersAt, requestSize, codeAt, markAt, answerSize}
 use Rattle.record.specs.Request.{kindOf, askedOf, formOf, judgedOf}
 use Rattle.record.specs.Answer.{recordOf, Step, recordStepOf}
 use Rattle.record.specs.Stream.{requestOf, answersOf}
-use Rattle.record.proofs.Numbers.{numbers-length, zeros-bytes}
 
 -- ---- a request of the right size
 
@@ -28,12 +29,13 @@ judged-clear f s =
     (chosen (Clear f) (usedFinite (askedOf f s)) _ _ (work-clear f (askedOf f s)) (λ _. refl))
     (λ _. refl)
 
-event-length : (f : Format) (s : List ℕ) → length s ≡ requestSize f → length (take eventBytes s) ≡ 4
-event-length f s h = length-take-le 4 s (omega arith)
+event-length : (f : Format) (s : List ℕ) → length s ≡ requestSize f → length (take eventBytes s) ≡ eventBytes
+event-length f s h = length-take-le eventBytes s (omega arith)
 
--- every answer is a record over one event's four bytes
+-- every answer is a record over one event's bytes
 each-record : (P : Step → Type 0) (f : Format) (s a : List ℕ) → length a ≡ answerSize f
-    → ((event : List ℕ) (kind : ℕ) (w : Worked) → length event ≡ 4 → Sized w → Clear f w → P (record { code = w .code; answer = recordOf f event kind w }))
+    → ((event : List ℕ) (kind : ℕ) (w : Worked) → length event ≡ eventBytes → Sized w → Clear f w
+    → P (record { code = w .code; answer = recordOf f event kind w }))
     → P (recordStepOf f s a)
 unfolding recordStepOf
 each-record P f s a h k =
@@ -43,16 +45,16 @@ each-record P f s a h k =
 
 -- ---- the size
 
-record-size : (f : Format) (event : List ℕ) (kind : ℕ) (w : Worked) → length event ≡ 4 → Sized w → length (recordOf f event kind w) ≡ answerSize f
+record-size : (f : Format) (event : List ℕ) (kind : ℕ) (w : Worked) → length event ≡ eventBytes → Sized w → length (recordOf f event kind w) ≡ answerSize f
 unfolding recordOf
 record-size f event kind w h n = simp (length-append, numbers-length, h, n .0, n .1, n .2) (omega arith)
 
 pub answer-size : (f : Format) (s a : List ℕ) → length a ≡ answerSize f → length (recordStepOf f s a .answer) ≡ answerSize f
 answer-size f s a h = each-record (λ (t : Step). length (t .answer) ≡ answerSize f) f s a h (λ event kind w e n _. record-size f event kind w e n)
 
--- ---- the code that is handed back stands in byte 5, unless it is 2 and nothing is written
+-- ---- the code that is handed back stands in its byte, unless it is 2 and nothing is written
 
-record-code : (f : Format) (event : List ℕ) (kind : ℕ) (w : Worked) → length event ≡ 4 → getD (recordOf f event kind w) codeAt 0 ≡ w .code
+record-code : (f : Format) (event : List ℕ) (kind : ℕ) (w : Worked) → length event ≡ eventBytes → getD (recordOf f event kind w) codeAt 0 ≡ w .code
 unfolding recordOf
 record-code f event kind w h = ap (λ (k : ℕ). getD (recordOf f event kind w) (k + 1) 0) (sym h) ∙ getD-append-add event _ 1 0
 
@@ -71,10 +73,10 @@ code-unless-2 f s a k =
     ⊎-elim (λ (e : length a ≡ answerSize f). code-in-place f s a e) (λ (n : length a ≡ answerSize f → ⊥). absurd (k (no-room f s a n)))
     (same? (length a) (answerSize f))
 
--- ---- with a code other than 0 the mark is zero, and every byte from 8 to the end
+-- ---- with a code other than 0 the mark is zero, and every byte behind it
 
-record-clear : (f : Format) (event : List ℕ) (kind code pivot : ℕ) → length event ≡ 4
-    → drop 7 (recordOf f event kind (refusedKind f code pivot)) ≡ 0 ∷ replicate (answerSize f - numbersAt) 0
+record-clear : (f : Format) (event : List ℕ) (kind code pivot : ℕ) → length event ≡ eventBytes
+    → drop markAt (recordOf f event kind (refusedKind f code pivot)) ≡ 0 ∷ replicate (answerSize f - numbersAt) 0
 unfolding recordOf
 record-clear f event kind code pivot h =
     let e : numberBytes f * 3 + (numberBytes f * 9 + numberBytes f * 9) ≡ answerSize f - numbersAt = omega arith in
@@ -90,14 +92,14 @@ record-clear f event kind code pivot h =
     ))
 
 pub refused-unmarked : (f : Format) (s a : List ℕ) → length a ≡ answerSize f → (recordStepOf f s a .code ≡ 0 → ⊥)
-    → drop 7 (recordStepOf f s a .answer) ≡ 0 ∷ replicate (answerSize f - numbersAt) 0
+    → drop markAt (recordStepOf f s a .answer) ≡ 0 ∷ replicate (answerSize f - numbersAt) 0
 refused-unmarked f s a h =
-    each-record (λ (t : Step). (t .code ≡ 0 → ⊥) → drop 7 (t .answer) ≡ 0 ∷ replicate (answerSize f - numbersAt) 0) f s a h
-    (λ event kind w e _ c k. ap (λ (w : Worked). drop 7 (recordOf f event kind w)) (c k) ∙ record-clear f event kind (w .code) (w .count) e)
+    each-record (λ (t : Step). (t .code ≡ 0 → ⊥) → drop markAt (t .answer) ≡ 0 ∷ replicate (answerSize f - numbersAt) 0) f s a h
+    (λ event kind w e _ c k. ap (λ (w : Worked). drop markAt (recordOf f event kind w)) (c k) ∙ record-clear f event kind (w .code) (w .count) e)
 
 pub refused-clear : (f : Format) (s a : List ℕ) → length a ≡ answerSize f → (recordStepOf f s a .code ≡ 0 → ⊥)
     → drop numbersAt (recordStepOf f s a .answer) ≡ replicate (answerSize f - numbersAt) 0
-refused-clear f s a h k = sym (drop-drop 1 7 (recordStepOf f s a .answer)) ∙ ap (drop 1) (refused-unmarked f s a h k)
+refused-clear f s a h k = sym (drop-drop 1 markAt (recordStepOf f s a .answer)) ∙ ap (drop 1) (refused-unmarked f s a h k)
 
 -- ---- after the record's test no kernel gives 5
 

@@ -1,7 +1,4 @@
-pub mod Parts
-pub mod Words
-pub mod Zeros
-pub mod Numbers
+pub mod Heads
 pub mod Used
 pub mod Records
 pub mod Answers

@@ -1,11 +1,12 @@
 -- The bytes of a record: its head and its three groups of numbers, written one after the other, are the whole.
 use Rattle.float.proofs.Words.{_≡_, sym, ap, _∙_, List, [], _∷_, _++_, append-assoc, ℕ, _≤_, length, getD, take, take-all, Format}
-use Rattle.record.specs.Bytes.{numberBytesOf}
+use Rattle.wire.specs.Bytes.{numberBytesOf}
+use Rattle.record.specs.Layout.{eventBytes}
 use Rattle.record.specs.Answer.{recordOf}
-use Rattle.record.proofs.Parts.{four}
+use Rattle.record.proofs.Heads.{four}
 use Rattle.kinds.specs.declared.work.Worked.{Worked}
 
-pub record-of-parts : (f : Format) (event : List ℕ) (kind : ℕ) (w : Worked) (l₁ l₂ l₃ l₄ : List ℕ) (i j k n : ℕ) → length event ≡ 4
+pub record-of-parts : (f : Format) (event : List ℕ) (kind : ℕ) (w : Worked) (l₁ l₂ l₃ l₄ : List ℕ) (i j k n : ℕ) → length event ≡ eventBytes
     → take i l₁ ≡ getD event 0 0 ∷ getD event 1 0 ∷ getD event 2 0 ∷ getD event 3 0 ∷ kind ∷ w .code ∷ w .count ∷ w .settled ∷ []
     → take j l₂ ≡ take i l₁ ++ numberBytesOf f (w .values)
     → take k l₃ ≡ take j l₂ ++ numberBytesOf f (w .left)

@@ -1,38 +1,33 @@
 -- Answers one after the other: one more behind those that are there, with what lies behind it as it was.
-use Rattle.float.proofs.Words.{_≡_, ap, List, _++_, append-assoc, ℕ, _+_, _*_, _≤_, arith, add-one, length, take, drop, length-take, length-append, take-at}
-use Rattle.float.proofs.Words.{drop-at, drop-drop, eq-eqb}
-use Rattle.float.specs.Width.{F}
+use Rattle.float.proofs.Words.{_≡_, ap, List, _++_, append-assoc, ℕ, _+_, _*_, _≤_, mul-suc, arith, add-one, length, take, drop, length-take, length-append}
+use Rattle.float.proofs.Words.{take-at, drop-at, drop-drop, Format, eq-eqb}
 use Rattle.record.specs.Layout.{requestSize, answerSize}
 use Rattle.record.specs.Answer.{answeredOf, recordStepOf}
 use Rattle.record.specs.Stream.{requestOf, answersOf}
 
 -- a record step on a request and a place of the right sizes
-pub stepped : (request answer : List ℕ) → length request ≡ requestSize F → length answer ≡ answerSize F
-    → recordStepOf F request answer .answer ≡ answeredOf F request
+pub stepped : (f : Format) (request answer : List ℕ) → length request ≡ requestSize f → length answer ≡ answerSize f
+    → recordStepOf f request answer .answer ≡ answeredOf f request
 unfolding recordStepOf
-stepped request answer h k = rw (eq-eqb _ (answerSize F) k, eq-eqb _ (requestSize F) h)
+stepped f request answer h k = rw (eq-eqb _ (answerSize f) k, eq-eqb _ (requestSize f) h)
 
--- a part exchanged for one of its size
-pub before-part : (l y r z : List ℕ) (b : ℕ) → b + answerSize F ≤ length l → length y ≡ answerSize F → y ≡ z
-    → take (b + answerSize F) (take b l ++ (y ++ r)) ≡ take b l ++ z
-before-part l y r z b h n e =
-    rw (← append-assoc, e) (take-at (take b l ++ z) r (b + answerSize F) (simp (length-append, length-take) (omega (arith, ap length e))))
+-- a part of n bytes exchanged for one of its size
+pub before-part : (l y r z : List ℕ) (b n : ℕ) → b + n ≤ length l → length y ≡ n → y ≡ z → take (b + n) (take b l ++ (y ++ r)) ≡ take b l ++ z
+before-part l y r z b n h k e =
+    rw (← append-assoc, e) (take-at (take b l ++ z) r (b + n) (simp (length-append, length-take) (omega (arith, ap length e))))
 
-pub behind-part : (l y r : List ℕ) (b : ℕ) → b + answerSize F ≤ length l → length y ≡ answerSize F → drop (b + answerSize F) (take b l ++ (y ++ r)) ≡ r
-behind-part l y r b h n =
-    rw (← append-assoc) (drop-at (take b l ++ y) r (b + answerSize F) (simp (length-append, length-take) (omega arith)))
+pub behind-part : (l y r : List ℕ) (b n : ℕ) → b + n ≤ length l → length y ≡ n → drop (b + n) (take b l ++ (y ++ r)) ≡ r
+behind-part l y r b n h k = rw (← append-assoc) (drop-at (take b l ++ y) r (b + n) (simp (length-append, length-take) (omega arith)))
 
 -- one answer more
-pub answer-more : (out′ out s : List ℕ) (i : ℕ) → take (answerSize F * i + answerSize F) out′ ≡ take (answerSize F * i) out ++ answeredOf F (requestOf F i s)
-    → take (answerSize F * i) out ≡ answersOf F i s
-    → take (answerSize F * (i + 1)) out′ ≡ answersOf F (i + 1) s
+pub answer-more : (f : Format) (out′ out s : List ℕ) (i : ℕ)
+    → take (answerSize f * i + answerSize f) out′ ≡ take (answerSize f * i) out ++ answeredOf f (requestOf f i s)
+    → take (answerSize f * i) out ≡ answersOf f i s
+    → take (answerSize f * (i + 1)) out′ ≡ answersOf f (i + 1) s
 unfolding answersOf
-answer-more out′ out s i w v =
-    let e : answerSize F * (i + 1) ≡ answerSize F * i + answerSize F = omega arith in
-    rw (e, w, v, add-one)
+answer-more f out′ out s i w v = rw (add-one, mul-suc, w, v)
 
-pub rest-more : (out′ out out₀ : List ℕ) (i : ℕ) → drop (answerSize F * i + answerSize F) out′ ≡ drop (answerSize F * i + answerSize F) out
-    → drop (answerSize F * i) out ≡ drop (answerSize F * i) out₀ → drop (answerSize F * (i + 1)) out′ ≡ drop (answerSize F * (i + 1)) out₀
-rest-more out′ out out₀ i w v =
-    let e : answerSize F * (i + 1) ≡ answerSize F * i + answerSize F = omega arith in
-    rw (e, w, ← drop-drop (answerSize F) (answerSize F * i) out, ← drop-drop (answerSize F) (answerSize F * i) out₀, v)
+-- what lies behind i + 1 parts of n bytes lies behind i of them
+pub rest-more : (out′ out out₀ : List ℕ) (n i : ℕ) → drop (n * i + n) out′ ≡ drop (n * i + n) out → drop (n * i) out ≡ drop (n * i) out₀
+    → drop (n * (i + 1)) out′ ≡ drop (n * (i + 1)) out₀
+rest-more out′ out out₀ n i w v = rw (add-one, mul-suc, w, ← drop-drop n (n * i) out, ← drop-drop n (n * i) out₀, v)

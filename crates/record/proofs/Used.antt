@@ -5,8 +5,8 @@ use Rattle.matrix.proofs.Tables.{take-tabulate, first-tabulate}
 use Rattle.kinds.specs.Table.{kindNumbered}
 use Rattle.kinds.specs.Work.{usedFinite}
 use Rattle.kinds.proofs.Rows.{nine-most, three-most}
-use Rattle.record.specs.Layout.{nineAt, threeAt, placeOf}
-use Rattle.record.specs.Bytes.{numberAt, numbersFrom}
+use Rattle.wire.specs.Bytes.{placeOf, numberAt, numbersFrom}
+use Rattle.record.specs.Layout.{nineAt, threeAt}
 use Rattle.record.specs.Request.{kindOf, askedOf}
 
 pub used-first : (f : Format) (s : List ℕ) → (allFinite (take (kindNumbered (kindOf s) .nine) (numbersFrom f 9 nineAt s))

@@ -8,8 +8,8 @@ use lib.Ieee.{Format}
 use Rattle.float.specs.Choice.{pick}
 use Rattle.kinds.specs.Work.{refusedKind}
 use Rattle.kinds.specs.declared.work.Worked.{Worked}
+use Rattle.wire.specs.Bytes.{numberBytesOf}
 use Rattle.record.specs.Layout.{eventBytes, requestSize, answerSize}
-use Rattle.record.specs.Bytes.{numberBytesOf}
 use Rattle.record.specs.Request.{kindOf, judgedOf}
 
 -- event number, kind, code, count, mark, and the numbers: good answers and refused ones alike

@@ -1,11 +1,7 @@
 -- Where everything stands in a request and in an answer, in bytes. Each place is named once, here. Definitions only.
-use Prim.Native.Nat.{ℕ, _+_, _*_}
-use lib.Ieee.{Format, binary32, binary64}
-
--- the bytes of a number
-abbrev pub numberBytes : Format → ℕ
-numberBytes binary32 = 4
-numberBytes binary64 = 8
+use Prim.Native.Nat.{ℕ}
+use lib.Ieee.{Format}
+use Rattle.wire.specs.Bytes.{placeOf}
 
 -- ---- both begin with the event's number and the kind
 
@@ -13,23 +9,16 @@ abbrev pub eventBytes : ℕ
 eventBytes = 4
 
 abbrev pub kindAt : ℕ
-kindAt = 4
+kindAt = eventBytes
 
 -- the head ends, and the numbers begin
 abbrev pub numbersAt : ℕ
 numbersAt = 8
 
--- the place of number i after byte a
-abbrev pub placeOf : Format → ℕ → ℕ → ℕ
-placeOf f a i = a + numberBytes f * i
-
--- ---- a request: byte 5 apart from the other two reserved ones, then nine numbers and three
+-- ---- a request: reserved bytes from byte 5 on, then nine numbers and three
 
 abbrev pub wayAt : ℕ
 wayAt = 5
-
-abbrev pub reservedAt : ℕ
-reservedAt = 6
 
 abbrev pub nineAt : ℕ
 nineAt = numbersAt
@@ -44,6 +33,18 @@ requestSize f = placeOf f nineAt 12
 
 abbrev pub codeAt : ℕ
 codeAt = 5
+
+abbrev pub countAt : ℕ
+countAt = 6
+
+abbrev pub markAt : ℕ
+markAt = 7
+
+abbrev pub leftAt : Format → ℕ
+leftAt f = placeOf f numbersAt 3
+
+abbrev pub rightAt : Format → ℕ
+rightAt f = placeOf f numbersAt 12
 
 abbrev pub answerSize : Format → ℕ
 answerSize f = placeOf f numbersAt 21

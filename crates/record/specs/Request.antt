@@ -11,8 +11,8 @@ use Rattle.kinds.specs.Work.{refusedKind, usedFinite, workOf}
 use Rattle.kinds.specs.declared.table.Kind.{Kind}
 use Rattle.kinds.specs.declared.work.Asked.{Asked}
 use Rattle.kinds.specs.declared.work.Worked.{Worked}
-use Rattle.record.specs.Layout.{kindAt, wayAt, nineAt, threeAt, placeOf, requestSize}
-use Rattle.record.specs.Bytes.{numbersFrom, zeroFrom}
+use Rattle.wire.specs.Bytes.{placeOf, numbersFrom, zeroFrom}
+use Rattle.record.specs.Layout.{kindAt, wayAt, nineAt, threeAt, requestSize}
 
 abbrev pub kindOf : List ℕ → ℕ
 kindOf s = getD s kindAt 0

@@ -4,8 +4,8 @@ use mathlib.Core.List.{List, [], _++_}
 use Prim.Native.Nat.{ℕ, zero, suc, _*_, _/_, min}
 use lib.ListN.{length, drop}
 use lib.Ieee.{Format}
+use Rattle.wire.specs.Bytes.{part}
 use Rattle.record.specs.Layout.{requestSize, answerSize}
-use Rattle.record.specs.Bytes.{part}
 use Rattle.record.specs.Answer.{answeredOf}
 
 -- the request with number i, counted from 0

@@ -1,6 +1,6 @@
 // The record step: a request's bytes to the bytes of its answer.
-use crate::bytes::put_numbers;
 use crate::layout::ANSWER_SIZE;
+use crate::layout::EVENT_SIZE;
 use crate::layout::KIND_AT;
 use crate::layout::LEFT_AT;
 use crate::layout::NUMBERS_AT;
@@ -11,26 +11,27 @@ use kinds::work::Worked;
 use kinds::work::refused;
 use matrix::codes::INPUT_LENGTH;
 use matrix::codes::OUTPUT_LENGTH;
+use wire::bytes::put_numbers;
 ghost use mathlib.Core.Path.{_≡_};
 ghost use Prim.Native.Nat.{_≤_};
 ghost use lib.ListN.{length, take};
 ghost use Rattle.float.specs.Width.{F};
-ghost use Rattle.record.specs.Layout.{answerSize};
+ghost use Rattle.record.specs.Layout.{numbersAt, answerSize};
 ghost use Rattle.record.specs.Answer.{recordOf, recordStepOf, Stepped};
 
-// The first eight bytes.
-fn put_head(out: &mut [u8], head: [u8; 8])
-    requires { ⌜ 8 ≤ length (now out) ⌝ }
-    ensures { λ _. ⌜ take 8 (now (out .exit)) ≡ head ⌝ }
+// The bytes before the numbers.
+fn put_head(out: &mut [u8], head: [u8; NUMBERS_AT])
+    requires { ⌜ numbersAt ≤ length (now out) ⌝ }
+    ensures { λ _. ⌜ take numbersAt (now (out .exit)) ≡ head ⌝ }
 {
     let mut i = 0usize;
-    while i < 8usize {
+    while i < NUMBERS_AT {
         out[i] = head[i];
         i += 1usize;
     }
 }
 
-fn put_record(out: &mut [u8], event: [u8; 4], kind: u8, w: Worked)
+fn put_record(out: &mut [u8], event: [u8; EVENT_SIZE], kind: u8, w: Worked)
     requires { ⌜ length (now out) ≡ answerSize F ⌝ }
     ensures { λ _. ⌜ now (out .exit) ≡ recordOf F event kind w ⌝ }
 {
@@ -64,7 +65,7 @@ pub extern "C" fn zanikory_answer_record(request: &[u8], answer: &mut [u8]) -> u
         return OUTPUT_LENGTH;
     }
     if request.len() != REQUEST_SIZE {
-        put_record(answer, [0u8; 4], 0, refused(INPUT_LENGTH, 0));
+        put_record(answer, [0u8; EVENT_SIZE], 0, refused(INPUT_LENGTH, 0));
         return INPUT_LENGTH;
     }
     let w = judged(request);

@@ -1,7 +1,9 @@
 // Where everything stands in a request and in an answer, in bytes.
 use float::width::NUMBER_SIZE;
 
-pub(crate) const KIND_AT: usize = 4;
+pub(crate) const EVENT_SIZE: usize = 4;
+
+pub(crate) const KIND_AT: usize = EVENT_SIZE;
 
 pub(crate) const NUMBERS_AT: usize = 8;
 

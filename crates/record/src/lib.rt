@@ -1,6 +1,5 @@
 // Requests and their answers as bytes, one record or many in a row.
 pub mod answer;
-mod bytes;
 pub mod layout;
 pub mod request;
 pub mod stream;

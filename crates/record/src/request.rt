@@ -1,6 +1,4 @@
 // What a request's bytes say: the tests of 3, 4 and 5 in their order, and then its kind's answer. Real is f64 (float::width).
-use crate::bytes::number_at;
-use crate::bytes::zeros_in;
 use crate::layout::KIND_AT;
 use crate::layout::NUMBERS_AT;
 use crate::layout::REQUEST_SIZE;
@@ -20,6 +18,8 @@ use matrix::codes::INPUT_LENGTH;
 use matrix::codes::INPUT_NOT_FINITE;
 use matrix::codes::RESERVED;
 use matrix::codes::UNKNOWN_KIND;
+use wire::bytes::number_at;
+use wire::bytes::zeros_in;
 ghost use mathlib.Core.Path.{_≡_};
 ghost use mathlib.Core.Bool.{_&&_};
 ghost use Prim.Native.Nat.{_≤_, _<_};
@@ -27,8 +27,8 @@ ghost use lib.ListN.{length, take};
 ghost use Rattle.float.specs.Width.{F};
 ghost use Rattle.float.specs.Sign.{allFinite};
 ghost use Rattle.kinds.specs.Table.{kindNumbered};
-ghost use Rattle.record.specs.Layout.{nineAt, threeAt, placeOf, requestSize};
-ghost use Rattle.record.specs.Bytes.{numberAt, numbersFrom};
+ghost use Rattle.wire.specs.Bytes.{placeOf, numberAt, numbersFrom};
+ghost use Rattle.record.specs.Layout.{nineAt, threeAt, requestSize};
 ghost use Rattle.record.specs.Request.{reservedZero, unusedZero, formOf, sizedFormOf, judgedOf};
 
 // Whether the reserved bytes and the numbers that the kind doesn't use are all zero bits.
@@ -73,14 +73,13 @@ pub fn form(request: &[u8]) -> u8
 
 // The number in slot i: the nine, and then the three.
 fn slot(s: &[u8], i: usize) -> Real
-    requires { ⌜ (length (now s) ≡ requestSize F) × (i < 12) ⌝ }
+    requires { ⌜ i < 12 ⌝ }
     ensures { λ r. ⌜ r ≡ numberAt F (placeOf F nineAt i) (now (s .entry)) ⌝ }
 {
     number_at(s, NUMBERS_AT + NUMBER_SIZE * i)
 }
 
 fn numbers9(s: &[u8]) -> [Real; 9]
-    requires { ⌜ length (now s) ≡ requestSize F ⌝ }
     ensures { λ r. ⌜ r ≡ numbersFrom F 9 nineAt (now (s .entry)) ⌝ }
 {
     [
@@ -97,7 +96,6 @@ fn numbers9(s: &[u8]) -> [Real; 9]
 }
 
 fn numbers3(s: &[u8]) -> [Real; 3]
-    requires { ⌜ length (now s) ≡ requestSize F ⌝ }
     ensures { λ r. ⌜ r ≡ numbersFrom F 3 (threeAt F) (now (s .entry)) ⌝ }
 {
     [slot(s, 9), slot(s, 10), slot(s, 11)]

@@ -2,10 +2,10 @@
 use Rattle.float.proofs.Words.{refl, ap, _∙_, List, [], _∷_, ℕ, arith, getD, replicate, eq-eqb, ne-eqb, needs}
 use Rattle.float.specs.Width.{F}
 use Rattle.kinds.specs.declared.work.Worked.{Worked}
-use Rattle.record.specs.Layout.{requestSize, answerSize}
+use Rattle.record.specs.Layout.{eventBytes, requestSize, answerSize}
 use Rattle.record.specs.Request.{kindOf, judgedOf}
 use Rattle.record.specs.Answer.{recordOf, recordStepOf}
-use Rattle.record.proofs.Parts.{first-four}
+use Rattle.record.proofs.Heads.{first-four}
 use Rattle.record.proofs.answer.zanikory_answer_record.Statement.{statement}
 use Rattle.record.proofs.answer.zanikory_answer_record.Tie as tie
 
@@ -15,7 +15,7 @@ returns-2 c =
     let w = c .before .before .before in
     let sizes = w .before .before in
     rw (eq-eqb _ (answerSize F) (sizes .before .if1 .left), ne-eqb _ (requestSize F) (sizes .if2 .taken))
-    (refl, c .before .before .put-record .ensures ∙ ap (λ (r : Worked). recordOf F (replicate 4 0) 0 r) (w .refused .ensures))
+    (refl, c .before .before .put-record .ensures ∙ ap (λ (r : Worked). recordOf F (replicate eventBytes 0) 0 r) (w .refused .ensures))
 
 returns-3 : tie.Need-returns-3
 unfolding recordStepOf

@@ -4,8 +4,8 @@ use Rattle.float.specs.Width.{F}
 use Rattle.kinds.specs.Table.{kindNumbered}
 use Rattle.kinds.specs.declared.table.Kind.{Kind}
 use Rattle.kinds.proofs.Rows.{nine-most, three-most}
-use Rattle.record.specs.Layout.{wayAt, nineAt, threeAt, placeOf, requestSize}
-use Rattle.record.specs.Bytes.{zeroFrom}
+use Rattle.wire.specs.Bytes.{placeOf, zeroFrom}
+use Rattle.record.specs.Layout.{wayAt, nineAt, threeAt, requestSize}
 use Rattle.record.proofs.request.unused_zero.Statement.{statement}
 use Rattle.record.proofs.request.unused_zero.Tie as tie
 
@@ -44,9 +44,9 @@ unused-zero-spec = tie.close (tie.spec
     (λ c κs. search needs) (λ c κs. search needs)
     (λ c. omega (arith, nine-fit (c .before .before)))
     (λ c. omega (arith, nine-fit (c .before .before)))
-    (λ c κs. let h = nine-fit (c .before .before) in (omega arith, omega arith))
+    (λ c κs. search needs)
     (λ c. omega (arith, three-fit (c .before .before .before .before)))
     (λ c. omega (arith, three-fit (c .before .before .before .before)))
-    (λ c κs. let h = three-fit (c .before .before .before .before) in (omega arith, omega arith))
+    (λ c κs. search needs)
     returns returns-2
     (λ c. rw (sym (c .before .zeros-in .ensures) ∙ c .if1 .left)))

@@ -23,8 +23,9 @@ loop-again c =
     let a = c .before .before .before .before .before .before .before .before .before .args in (
       omega arith,
       omega arith,
-      answer-more (c .before .before .answer-one .last .1 .0) (l .answers) (a .requests .now) (l .i) (c .before .before .answer-one .ensures .0) (l .inv .2),
-      rest-more (c .before .before .answer-one .last .1 .0) (l .answers) (a .answers .now) (l .i) (c .before .before .answer-one .ensures .1) (l .inv .3),
+      answer-more F (c .before .before .answer-one .last .1 .0) (l .answers) (a .requests .now) (l .i) (c .before .before .answer-one .ensures .0) (l .inv .2),
+      rest-more (c .before .before .answer-one .last .1 .0) (l .answers) (a .answers .now) (answerSize F) (l .i)
+          (c .before .before .answer-one .ensures .1) (l .inv .3),
     )
 
 returns : tie.Need-returns Inv-loop μ-loop

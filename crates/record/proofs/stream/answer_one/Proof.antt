@@ -18,11 +18,11 @@ returns c =
     let room : length (take ((b + answerSize F) - b) (drop b (a .answers .now))) ≡ answerSize F = simp (length-take, length-drop) (omega arith) in
     let size : length (take ((requestSize F * a .i + requestSize F) - requestSize F * a .i) (drop (requestSize F * a .i) (a .requests .now))) ≡ requestSize F =
     simp (length-take, length-drop) (omega arith) in
-    let done = step .ensures .1 ∙ stepped _ _ size room ∙ ap (λ (k : ℕ). answeredOf F (take k (drop (requestSize F * a .i) (a .requests .now)))) m in
+    let done = step .ensures .1 ∙ stepped F _ _ size room ∙ ap (λ (k : ℕ). answeredOf F (take k (drop (requestSize F * a .i) (a .requests .now)))) m in
     let rest : b + ((b + answerSize F) - b) ≡ b + answerSize F = omega arith in
     let long : length (step .last .1 .0) ≡ answerSize F = step .kept .1 .0 ∙ room in (
-      before-part (a .answers .now) (step .last .1 .0) _ _ b (start .pre .1) long done,
-      behind-part (a .answers .now) (step .last .1 .0) _ b (start .pre .1) long
+      before-part (a .answers .now) (step .last .1 .0) _ _ b (answerSize F) (start .pre .1) long done,
+      behind-part (a .answers .now) (step .last .1 .0) _ b (answerSize F) (start .pre .1) long
           ∙ drop-drop ((b + answerSize F) - b) b (a .answers .now)
           ∙ ap (λ (k : ℕ). drop k (a .answers .now)) rest,
     )

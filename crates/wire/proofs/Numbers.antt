@@ -1,45 +1,41 @@
 -- Numbers in bytes, over the format.
-use Rattle.float.proofs.Words.{_≡_, refl, sym, ap, not, List, [], _∷_, _++_, append-assoc, append-nil, ℕ, zero, suc, _+_, _*_, _^_, _<_, mul-zero, mul-suc}
-use Rattle.float.proofs.Words.{add-assoc, add-comm, add-one, T, length, getD, take, replicate, length-append, replicate-append-replicate, take-suc, Float, nan}
-use Rattle.float.proofs.Words.{Format, binary32, binary64, fits, isNan, top, ofBits, toBits}
+use Rattle.float.proofs.Words.{_≡_, refl, sym, ap, not, List, [], _∷_, _++_, ℕ, zero, suc, _+_, _*_, _^_, _≤_, _<_, mul-zero, mul-suc, add-assoc, add-comm}
+use Rattle.float.proofs.Words.{add-one, T, length, getD, take, drop, replicate, length-append, replicate-append-replicate, drop-cons, sets, Float, nan, Format}
+use Rattle.float.proofs.Words.{binary32, binary64, fits, isNan, top, ofBits, toBits}
 use lib.Ieee.Bits.{ofBits-toBits, toBits-lt, toBits-ofBits}
 use Rattle.float.specs.Constants.{zeroF}
 use Rattle.matrix.specs.Places.{zeros}
-use Rattle.record.specs.Layout.{numberBytes, placeOf}
-use Rattle.record.specs.Bytes.{wordOf, bytesOf, numberBytesOf}
-use Rattle.record.proofs.Words.{bytes-length, word-of-bytes, word-below, bytes-of-word}
+use Rattle.wire.specs.Bytes.{numberBytes, placeOf, wordOf, bytesOf, numberBytesOf, placedOf}
+use Rattle.wire.proofs.Parts.{sets-append, placed-front}
+use Rattle.wire.proofs.Words.{bytes-length, word-of-bytes, word-below, bytes-of-word}
 
 abbrev pub wordBytes : Format → Float → List ℕ
 wordBytes f x = bytesOf (numberBytes f) (toBits f x)
 
-bytes-of-both : (f : Format) (xs ys : List Float) → numberBytesOf f (xs ++ ys) ≡ numberBytesOf f xs ++ numberBytesOf f ys
+-- a number stored, and the others behind it
+pub number-more : (f : Format) (out : List ℕ) (xs : List Float) (at i : ℕ) → i < length xs
+    → sets (sets out (placeOf f at i) (wordBytes f (getD xs i nan))) (placeOf f at (i + 1)) (numberBytesOf f (drop (i + 1) xs))
+    ≡ sets out (placeOf f at i) (numberBytesOf f (drop i xs))
 unfolding numberBytesOf
-bytes-of-both f [] ys = refl
-bytes-of-both f (x ∷ xs) ys = rw (bytes-of-both f xs ys, append-assoc)
-
-bytes-of-more : (f : Format) (xs : List Float) (i : ℕ) → i < length xs
-    → numberBytesOf f (take (i + 1) xs) ≡ numberBytesOf f (take i xs) ++ wordBytes f (getD xs i nan)
-unfolding numberBytesOf
-bytes-of-more f xs i h =
-    rw (add-one, take-suc xs i nan h, bytes-of-both)
-    (ap (λ (l : List ℕ). numberBytesOf f (take i xs) ++ l) (append-nil (wordBytes f (getD xs i nan))))
-
--- a number written behind those that are
-pub number-more : (f : Format) (out′ out out₀ : List ℕ) (xs : List Float) (at i : ℕ) → i < length xs
-    → take (placeOf f at i + numberBytes f) out′ ≡ take (placeOf f at i) out ++ wordBytes f (getD xs i nan)
-    → take (placeOf f at i) out ≡ take at out₀ ++ numberBytesOf f (take i xs)
-    → take (placeOf f at (i + 1)) out′ ≡ take at out₀ ++ numberBytesOf f (take (i + 1) xs)
-number-more f out′ out out₀ xs at i h w v =
-    rw (bytes-of-more f xs i h, ← append-assoc, ← v, ← w) (ap (λ (k : ℕ). take k out′) (next f))
-  where
-    next : (f : Format) → placeOf f at (i + 1) ≡ placeOf f at i + numberBytes f
-    next f = rw (add-one, mul-suc) (sym (add-assoc at (numberBytes f * i) (numberBytes f)))
+number-more f out xs at i h =
+    let x = wordBytes f (getD xs i nan) in
+    let next : placeOf f at (i + 1) ≡ placeOf f at i + length x =
+    rw (add-one, mul-suc, bytes-length) (sym (add-assoc at (numberBytes f * i) (numberBytes f))) in
+    rw (next, drop-cons xs i nan h, add-one) (sets-append out (placeOf f at i) x (numberBytesOf f (drop (suc i) xs)))
 
 pub numbers-length : (f : Format) (xs : List Float) → length (numberBytesOf f xs) ≡ numberBytes f * length xs
 unfolding numberBytesOf
 numbers-length f [] = sym (mul-zero (numberBytes f))
 numbers-length f (x ∷ xs) =
     rw (length-append, bytes-length, numbers-length f xs, mul-suc) (add-comm (numberBytes f) (numberBytes f * length xs))
+
+-- numbers placed in a list, up to their end
+pub numbers-front : (f : Format) (l l′ : List ℕ) (xs : List Float) (at n : ℕ) → length xs ≡ n → placeOf f at n ≤ length l
+    → l′ ≡ placedOf at (numberBytesOf f xs) l
+    → take (placeOf f at n) l′ ≡ take at l ++ numberBytesOf f xs
+numbers-front f l l′ xs at n e h p =
+    let room : at + length (numberBytesOf f xs) ≤ length l = rw (numbers-length f xs, e) h in
+    rw (p, ← e, ← numbers-length f xs) (placed-front at (numberBytesOf f xs) l room)
 
 -- ---- zeros
 

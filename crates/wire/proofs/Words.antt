@@ -1,10 +1,8 @@
 -- Words and their bytes, over the width.
-use Rattle.float.proofs.Words.{_≡_, refl, sym, ap, _∙_, List, [], _∷_, _++_, append-assoc, ℕ, zero, suc, _+_, _*_, _/_, _%_, _^_, _≤_, _<_, pow-zero, pow-suc}
-use Rattle.float.proofs.Words.{pow-le-pow-right, arith, add-one, length, getD, take, set}
-use Rattle.float.specs.Width.{F}
-use Rattle.record.specs.Layout.{numberBytes}
-use Rattle.record.specs.Bytes.{wordOf, bytesOf, part}
-use Rattle.record.proofs.Parts.{part-more, stored-behind}
+use Rattle.float.proofs.Words.{_≡_, refl, sym, ap, _∙_, List, [], _∷_, ℕ, zero, suc, _+_, _*_, _/_, _%_, _^_, _≤_, _<_, pow-zero, pow-suc}
+use Rattle.float.proofs.Words.{pow-le-pow-right, arith, add-one, length, getD, set, sets}
+use Rattle.wire.specs.Bytes.{wordOf, bytesOf, part}
+use Rattle.wire.proofs.Parts.{part-more}
 
 -- a byte in front of a word
 pub word-more : (s : List ℕ) (a a′ n n′ w b : ℕ) → a < length s → a′ ≡ a + 1 → n′ ≡ n + 1 → b ≡ getD s a 0 → w ≡ wordOf (part a′ n s)
@@ -15,16 +13,15 @@ word-more s a a′ n n′ w b h e k p q = rw (part-more a n′ n s h k, ← e, �
 pub word-grows : (n n′ w b : ℕ) → n′ ≡ n + 1 → w < 256 ^ n → b < 256 → w * 256 + b < 256 ^ n′
 word-grows n n′ w b e h k = rw (e, add-one, pow-suc) (omega arith)
 
--- up to eight bytes fit a word of the machine
-pub word-fits : (n w : ℕ) → n ≤ numberBytes F → w < 256 ^ n → w < 256 ^ numberBytes F
-word-fits n w h k = let p : 256 ^ n ≤ 256 ^ numberBytes F = pow-le-pow-right (omega arith) h in omega arith
+-- a word of n bytes fits m of them or more
+pub word-fits : (n m w : ℕ) → n ≤ m → w < 256 ^ n → w < 256 ^ m
+word-fits n m w h k = let p : 256 ^ n ≤ 256 ^ m = pow-le-pow-right (omega arith) h in omega arith
 
--- a byte stored-behind in front of the rest of its word
-pub bytes-more : (out t : List ℕ) (j j′ k k′ rest : ℕ) → j < length out → j′ ≡ j + 1 → k ≡ k′ + 1 → take j out ++ bytesOf k rest ≡ t
-    → take j′ (set out j (rest % 256)) ++ bytesOf k′ (rest / 256) ≡ t
+-- a byte stored, and the rest of its word behind it
+pub bytes-more : (out t : List ℕ) (j j′ k k′ rest : ℕ) → j′ ≡ j + 1 → k ≡ k′ + 1 → sets out j (bytesOf k rest) ≡ t
+    → sets (set out j (rest % 256)) j′ (bytesOf k′ (rest / 256)) ≡ t
 unfolding bytesOf
-bytes-more out t j j′ k k′ rest h e f q =
-    rw (stored-behind out j j′ (rest % 256) e h, append-assoc) (ap (λ (n : ℕ). take j out ++ bytesOf n rest) (sym (add-one k′) ∙ sym f) ∙ q)
+bytes-more out t j j′ k k′ rest e f q = (rw (e, add-one)) ∙ (rw (f, add-one) at q)
 
 -- ---- back and forth
 

@@ -1,9 +1,9 @@
 -- The zero test of bytes, from a place on, and bytes taken together bit by bit: none has a bit exactly where all are zero.
 use Rattle.float.proofs.Words.{_≡_, refl, sym, ap, _∙_, Bool, true, false, _&&_, and-assoc, List, ℕ, _+_, _-_, _≤_, _<_, arith, eqb, length, getD, eq-eqb}
-use Rattle.float.proofs.Words.{ne-eqb, eqb-true, eqb-false}
+use Rattle.float.proofs.Words.{ne-eqb, eqb-true, eqb-false, ltb, ltb-true, ltb-false, min}
 use lib.Bits.{bitOr, or-add-and, and-le-l, and-le-r, or-zero-l}
-use Rattle.record.specs.Bytes.{allZero, zeroFrom}
-use Rattle.record.proofs.Parts.{part-more}
+use Rattle.wire.specs.Bytes.{allZero, zeroFrom}
+use Rattle.wire.proofs.Parts.{part-more, part-past}
 
 -- ---- one byte, and none
 
@@ -11,9 +11,22 @@ pub zero-more : (s : List ℕ) (i e : ℕ) → i < e → e ≤ length s → zero
 unfolding allZero
 zero-more s i e h k = rw (part-more i (e - i) (e - (i + 1)) s (omega arith) (omega arith))
 
-pub none-left : (s : List ℕ) (e : ℕ) → zeroFrom e e s ≡ true
+pub none-left : (s : List ℕ) (i e : ℕ) → e ≤ i → zeroFrom i e s ≡ true
 unfolding allZero
-none-left s e = let z : e - e ≡ 0 = omega arith in rw z
+none-left s i e h = let z : e - i ≡ 0 = omega arith in rw z
+
+-- no byte stands behind the last one
+pub zero-past : (s : List ℕ) (a e : ℕ) → zeroFrom a (min e (length s)) s ≡ zeroFrom a e s
+zero-past s a e = by (ltb (length s) e) refl
+  where
+    by : (t : Bool) → ltb (length s) e ≡ t → zeroFrom a (min e (length s)) s ≡ zeroFrom a e s
+    by true h =
+        let l = ltb-true (length s) e h in
+        ap allZero (part-past a (min e (length s) - a) (e - a) s (omega arith) (omega arith))
+    by false h =
+        let l = ltb-false (length s) e h in
+        let same : min e (length s) ≡ e = omega arith in
+        rw same
 
 -- ---- bit by bit
 
