@@ -103,17 +103,17 @@ fn from_eigen2(r: Eigen2) -> Worked
     }
 }
 
-fn from_eigen3(r: Eigen3) -> Worked
-    ensures { λ w. ⌜ w ≡ fromEigen3 F r ⌝ }
+fn from_eigen3(e: Eigen3) -> Worked
+    ensures { λ w. ⌜ w ≡ fromEigen3 F e ⌝ }
 {
-    let made = r.made;
-    let v = r.values;
-    let m = r.vectors;
+    let made = e.made;
+    let v = e.values;
+    let m = e.vectors;
     let left = all9(m);
     Worked {
-        code: r.code,
+        code: e.code,
         count: made.count,
-        settled: mark(r.settled),
+        settled: mark(e.settled),
         values: [v[0], v[1], v[2]],
         left,
         right: [0.0; 9],

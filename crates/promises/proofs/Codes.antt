@@ -36,7 +36,7 @@ module _ (f : Format) (s a : List ℕ) where
   abbrev later : ℕ
   later = laterCode f (askedOf f s) (kindNumbered (kindOf s) .kernel)
 
-  judged-code : judgedOf f s .code ≡ pick (not (knownKind (kindOf s))) 3 (pick (not zero) 4 (pick (not (usedFinite (askedOf f s))) 5 later))
+  pub judged-code : judgedOf f s .code ≡ pick (not (knownKind (kindOf s))) 3 (pick (not zero) 4 (pick (not (usedFinite (askedOf f s))) 5 later))
   unfolding judgedOf formOf
   judged-code = asked f (workOf f (askedOf f s)) later (knownKind (kindOf s)) zero (usedFinite (askedOf f s)) (kind-code f (askedOf f s))
 

@@ -6,3 +6,4 @@ pub mod Signs
 pub mod Wiring
 pub mod Vouched
 pub mod Pivots
+pub mod Leaves

@@ -2,3 +2,4 @@ pub mod Examples
 pub mod Conditions
 pub mod Wiring
 pub mod Vouched
+pub mod Leaves

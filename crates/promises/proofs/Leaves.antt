@@ -1,0 +1,155 @@
+-- What is left is the slice as it was, the answer to a request of the wrong size, or the answer to a request: each is looked at byte by byte.
+use Rattle.float.proofs.Words.{_≡_, refl, sym, ap, _∙_, Bool, true, not, _&&_, List, [], _∷_, _++_, append-assoc, ℕ, _+_, arith, eqb, length, getD, take, drop}
+use Rattle.float.proofs.Words.{replicate, length-append, length-take-le, take-suc, take-at, getD-drop, getD-append-add, Format, eq-eqb, ne-eqb}
+use contract.Lifetimes.{Lfts}
+use Rattle.float.specs.Width.{F}
+use Rattle.float.specs.Choice.{pick}
+use Rattle.float.proofs.Choice.{chosen, by-eqb}
+use Rattle.kinds.specs.Table.{kindNumbered, knownKind}
+use Rattle.kinds.specs.Work.{refusedKind, usedFinite, workOf}
+use Rattle.kinds.specs.declared.work.Worked.{Worked}
+use Rattle.kinds.proofs.Works.{Uncounted, work-uncounted}
+use Rattle.wire.specs.Bytes.{numberBytesOf}
+use Rattle.record.specs.Layout.{eventBytes, kindAt, numbersAt, requestSize, codeAt, countAt, markAt, answerSize}
+use Rattle.record.specs.Request.{kindOf, askedOf, reservedZero, unusedZero, formOf, judgedOf}
+use Rattle.record.specs.Answer.{recordOf, answeredOf, wrongSizeOf, Step, recordStepOf}
+use Rattle.record.proofs.Answers.{answer-size, code-in-place, refused-unmarked, refused-clear}
+use Rattle.record.proofs.answer.zanikory_answer_record.Reads as answer-record
+use Rattle.cholesky.specs.Pivots.{refusedPivot}
+use Rattle.promises.specs.Conditions.{pivotsOf}
+use Rattle.promises.specs.Leaves.{Not, Leaves}
+use Rattle.promises.proofs.Codes.{judged-code}
+use Rattle.promises.proofs.Kernels.{laterCode}
+use Rattle.promises.proofs.Pivots.{pivot-given}
+
+-- ---- the head of a record
+
+record-count : (f : Format) (event : List ℕ) (kind : ℕ) (w : Worked) → length event ≡ eventBytes → getD (recordOf f event kind w) countAt 0 ≡ w .count
+unfolding recordOf
+record-count f event kind w h = ap (λ (k : ℕ). getD (recordOf f event kind w) (k + 2) 0) (sym h) ∙ getD-append-add event _ 2 0
+
+record-event : (f : Format) (s : List ℕ) (w : Worked) → length s ≡ requestSize f → take codeAt (recordOf f (take eventBytes s) (kindOf s) w) ≡ take codeAt s
+unfolding recordOf
+record-event f s w h =
+    let rest = w .code ∷ w .count ∷ w .settled ∷ numberBytesOf f (w .values) ++ (numberBytesOf f (w .left) ++ numberBytesOf f (w .right)) in
+    let head = take eventBytes s ++ (kindOf s ∷ []) in
+    let first = length-take-le eventBytes s (omega arith) in
+    ap (take codeAt) (sym (append-assoc (take eventBytes s) (kindOf s ∷ []) rest)) ∙ take-at head rest codeAt (rw length-append (omega arith))
+    ∙ sym (take-suc s eventBytes 0 (omega arith))
+
+-- ---- a request of the right size
+
+module _ (f : Format) (s : List ℕ) where
+  -- its code is none of those of a wrong size
+  abbrev Sized : ℕ → Type 0
+  Sized k = Not 1 k × Not 2 k
+
+  judged-sized : Sized (judgedOf f s .code)
+  judged-sized =
+      rw (judged-code f s [])
+      (chosen Sized (not (knownKind (kindOf s))) 3 _ ((λ e. omega arith), (λ e. omega arith))
+      (chosen Sized (not (reservedZero s && unusedZero f (kindNumbered (kindOf s)) s)) 4 _ ((λ e. omega arith), (λ e. omega arith))
+      (chosen Sized (not (usedFinite (askedOf f s))) 5 _ ((λ e. omega arith), (λ e. omega arith))
+      (chosen Sized _ 6 _ ((λ e. omega arith), (λ e. omega arith))
+      (chosen Sized _ 0 7 ((λ e. omega arith), (λ e. omega arith)) ((λ e. omega arith), (λ e. omega arith)))))))
+
+  judged-uncounted : Uncounted (kindNumbered (kindOf s)) (judgedOf f s)
+  unfolding judgedOf
+  judged-uncounted =
+      let P : Worked → Type 0 = Uncounted (kindNumbered (kindOf s)) in
+      chosen P (eqb (formOf f s) 0) (pick (usedFinite (askedOf f s)) (workOf f (askedOf f s)) (refusedKind f 5 0)) (refusedKind f (formOf f s) 0)
+      (chosen P (usedFinite (askedOf f s)) (workOf f (askedOf f s)) (refusedKind f 5 0) (work-uncounted f (askedOf f s)) (λ _ _. refl)) (λ _ _. refl)
+
+-- ---- any slices
+
+module _ (f : Format) (s a : List ℕ) (room : length a ≡ answerSize f) where
+  abbrev code : ℕ
+  code = recordStepOf f s a .code
+
+  abbrev left : List ℕ
+  left = recordStepOf f s a .answer
+
+  -- the byte of the mark is the first of those behind the count
+  mark-of : getD left markAt 0 ≡ getD (drop markAt left) 0 0
+  mark-of = sym (getD-drop markAt left 0 0)
+
+  -- what holds of the heads of both answers holds of all that is left
+  headed : (event : Not 1 code → take codeAt left ≡ take codeAt s) (unread : code ≡ 1 → take codeAt left ≡ replicate codeAt 0) → Not 2 code
+      → (pivot : code ≡ 6 → getD left countAt 0 ≡ refusedPivot f 1 (pivotsOf f (kindNumbered (kindOf s) .kernel) (askedOf f s)))
+      → (Not 6 code → ((code ≡ 0) × (kindNumbered (kindOf s) .counts ≡ true) → ⊥) → getD left countAt 0 ≡ 0)
+      → Leaves f s a code left
+  headed event unread n pivot uncounted = record {
+    untouched = (λ e. absurd (n e));
+    size = (λ _. answer-size f s a room);
+    coded = (λ _. code-in-place f s a room);
+    event = (λ _. event);
+    unread = unread;
+    pivot = pivot;
+    uncounted = (λ _. uncounted);
+    unmarked = (λ _ k. mark-of ∙ ap (λ (l : List ℕ). getD l 0 0) (refused-unmarked f s a room k));
+    clear = (λ _. refused-clear f s a room);
+  }
+
+-- ---- the three ways of the step
+
+with-room : (f : Format) (s a : List ℕ) → length a ≡ answerSize f → length s ≡ requestSize f
+    → recordStepOf f s a ≡ record { code = judgedOf f s .code; answer = answeredOf f s }
+unfolding recordStepOf
+with-room f s a k h = rw (eq-eqb _ (answerSize f) k, eq-eqb _ (requestSize f) h)
+
+wrong-size : (f : Format) (s a : List ℕ) → length a ≡ answerSize f → (length s ≡ requestSize f → ⊥)
+    → recordStepOf f s a ≡ record { code = 1; answer = wrongSizeOf f }
+unfolding recordStepOf
+wrong-size f s a k h = rw (eq-eqb _ (answerSize f) k, ne-eqb _ (requestSize f) h)
+
+no-room : (f : Format) (s a : List ℕ) → (length a ≡ answerSize f → ⊥) → recordStepOf f s a ≡ record { code = 2; answer = a }
+unfolding recordStepOf
+no-room f s a k = rw (ne-eqb _ (answerSize f) k)
+
+answered : (f : Format) (s a : List ℕ) → length a ≡ answerSize f → length s ≡ requestSize f → Leaves f s a (recordStepOf f s a .code) (recordStepOf f s a .answer)
+answered f s a room size =
+    let e = with-room f s a room size in
+    let event-size = length-take-le eventBytes s (omega arith) in
+    let count : getD (recordStepOf f s a .answer) countAt 0 ≡ judgedOf f s .count =
+    ap (λ (t : Step). getD (t .answer) countAt 0) e ∙ record-count f (take eventBytes s) (kindOf s) (judgedOf f s) event-size in
+    headed f s a room (λ _. ap (λ (t : Step). take codeAt (t .answer)) e ∙ record-event f s (judgedOf f s) size)
+    (λ k. absurd (judged-sized f s .0 (sym (ap (λ (t : Step). t .code) e) ∙ k)))
+    (λ k. judged-sized f s .1 (sym (ap (λ (t : Step). t .code) e) ∙ k))
+    (λ k. count ∙ pivot-given f s (sym (ap (λ (t : Step). t .code) e) ∙ k))
+    (λ k c. count ∙ judged-uncounted f s (λ q. k (ap (λ (t : Step). t .code) e ∙ q)) (λ q. c (ap (λ (t : Step). t .code) e ∙ q .0, q .1)))
+
+unread : (f : Format) (s a : List ℕ) → length a ≡ answerSize f → (length s ≡ requestSize f → ⊥) → Leaves f s a (recordStepOf f s a .code) (recordStepOf f s a .answer)
+unfolding recordOf
+unread f s a room size =
+    let e = wrong-size f s a room size in
+    let c = ap (λ (t : Step). t .code) e in
+    headed f s a room (λ n. absurd (n c)) (λ _. ap (λ (t : Step). take codeAt (t .answer)) e) (λ k. absurd (omega (arith, c)))
+    (λ k. absurd (omega (arith, c))) (λ _ _. ap (λ (t : Step). getD (t .answer) countAt 0) e)
+
+untouched : (f : Format) (s a : List ℕ) → (length a ≡ answerSize f → ⊥) → Leaves f s a (recordStepOf f s a .code) (recordStepOf f s a .answer)
+untouched f s a n =
+    let e = no-room f s a n in
+    let c = ap (λ (t : Step). t .code) e in
+    record {
+      untouched = (λ _. ap (λ (t : Step). t .answer) e);
+      size = (λ k. absurd (k c));
+      coded = (λ k. absurd (k c));
+      event = (λ k. absurd (k c));
+      unread = (λ k. absurd (omega (arith, c)));
+      pivot = (λ k. absurd (omega (arith, c)));
+      uncounted = (λ k. absurd (k c));
+      unmarked = (λ k. absurd (k c));
+      clear = (λ k. absurd (k c));
+    }
+
+pub leaves : (f : Format) (s a : List ℕ) → Leaves f s a (recordStepOf f s a .code) (recordStepOf f s a .answer)
+leaves f s a =
+    by-eqb {A = ℕ} (λ _. Leaves f s a (recordStepOf f s a .code) (recordStepOf f s a .answer)) (length a) (answerSize f) 0 0
+    (λ room. by-eqb {A = ℕ} (λ _. Leaves f s a (recordStepOf f s a .code) (recordStepOf f s a .answer)) (length s) (requestSize f) 0 0
+    (answered f s a room) (unread f s a room))
+    (untouched f s a)
+
+-- ---- any answer within the promise of the record step
+
+pub left-by-calls : (κs : Lfts 2) (a : _) (r : ℕ) (x : _) → answer-record.Post κs a r x → Leaves F (a .0 .now) (a .1 .0 .now) r (x .1 .0 .now)
+left-by-calls κs a r x p = rw (p .0, p .1) (leaves F (a .0 .now) (a .1 .0 .now))
