@@ -16,5 +16,6 @@ pub mod Zeros
 pub mod Units
 pub mod Rounding
 pub mod Correct
+pub mod Named
 pub mod Assembled
 pub mod Unique
