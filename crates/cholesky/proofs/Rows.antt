@@ -21,15 +21,15 @@ unfolding oneAtMostZero
 each-above f [] h = refl
 each-above f (p ∷ ps) h = rw (h 0 (omega arith), each-above f ps (λ i l. h (suc i) (omega arith)))
 
+neither : (a b : Bool) → a || b ≡ false → (a ≡ false) × (b ≡ false)
+neither true b e = absurd (true≢false e)
+neither false b e = (refl, e)
+
 all-above : (f : Format) (ps : List Float) → oneAtMostZero f ps ≡ false → (i : ℕ) → i < length ps → le (at ps i) (zeroF f) ≡ false
 unfolding oneAtMostZero
 all-above f [] e i l = absurd (omega arith)
-all-above f (p ∷ ps) e i l = by (le p (zeroF f)) refl e i l
-  where
-    by : (t : Bool) → le p (zeroF f) ≡ t → t || oneAtMostZero f ps ≡ false → (i : ℕ) → i < suc (length ps) → le (at (p ∷ ps) i) (zeroF f) ≡ false
-    by true h e i l = absurd (true≢false e)
-    by false h e zero l = h
-    by false h e (suc i) l = all-above f ps e i (omega arith)
+all-above f (p ∷ ps) e zero l = neither (le p (zeroF f)) (oneAtMostZero f ps) e .0
+all-above f (p ∷ ps) e (suc i) l = all-above f ps (neither (le p (zeroF f)) (oneAtMostZero f ps) e .1) i (omega arith)
 
 pub by-pivots : (f : Format) (ps : List Float) → Decides (oneAtMostZero f ps) (NotAbove f ps)
 by-pivots f ps = ((λ e h. false≢true (sym (each-above f ps h) ∙ e)), (λ e w. w (all-above f ps e)))
@@ -67,11 +67,9 @@ module _ (f : Format) (a b : List Float) where
 none-refused : (f : Format) (k : ℕ) (ps : List Float) → oneAtMostZero f ps ≡ false → refusedPivot f k ps ≡ 0
 unfolding oneAtMostZero refusedPivot
 none-refused f k [] e = refl
-none-refused f k (p ∷ ps) e = by (le p (zeroF f)) e
-  where
-    by : (t : Bool) → t || oneAtMostZero f ps ≡ false → pick t k (refusedPivot f (suc k) ps) ≡ 0
-    by true e = absurd (true≢false e)
-    by false e = none-refused f (suc k) ps e
+none-refused f k (p ∷ ps) e =
+    let n = neither (le p (zeroF f)) (oneAtMostZero f ps) e in
+    rw (n .0) (none-refused f (suc k) ps (n .1))
 
 module _ {f : Format} {l : List Float} {s : ℕ} {pivots : List Float} {r : FactorAnswer} (known : Stops f l s 1 pivots r) where
   steps-unstopped : (r .code ≡ 6 → ⊥) → r .pivot ≡ 0
