@@ -1,5 +1,4 @@
 pub mod Pivots
-pub mod Steps
 pub mod Stops
 pub mod Codes
 pub mod Rows

@@ -3,7 +3,7 @@
 pub mod Steps
 pub mod Order
 pub mod Wiring
-use Rattle.float.proofs.Words.{_≡_, refl, sym, ap, _∙_, Bool, true, false, List, [], _∷_, _++_, ℕ, _<_, arith, length, Float, Format}
+use Rattle.float.proofs.Words.{_≡_, refl, sym, ap, _∙_, subst, Bool, true, false, List, _++_, ℕ, _<_, arith, length, Float, Format}
 use Rattle.float.specs.Choice.{pick}
 use Rattle.float.specs.Sign.{allFinite}
 use Rattle.float.specs.Judged.{judged}
@@ -11,6 +11,7 @@ use Rattle.float.proofs.Finite.{all-finite-append, parts-finite}
 use Rattle.float.proofs.Negation.{negation}
 use Rattle.float.proofs.Keys.{Within, keyed}
 use Rattle.matrix.specs.Places.{at}
+use Rattle.matrix.proofs.Tables.{tabulate-all}
 use Rattle.jacobi.proofs.Moves.{columns-finite}
 use Rattle.jacobi.proofs.Sorted.{below3}
 use Rattle.eigen.specs.Eigen3x3.{State, startOf, lastOf, diagonal, rankedOf, refusedEigen, numbersOf, answerOf, endOf, eigenOf}
@@ -24,14 +25,9 @@ use Rattle.eigen.proofs.Reversed.Order.{values-reversed, columns-revers
 -- ---- a matrix of six numbers and its negation
 
 of-six : (a : List Float) → length a ≡ 6 → Related true a (negated a)
-of-six [] h = absurd (omega arith)
-of-six (x11 ∷ []) h = absurd (omega arith)
-of-six (x11 ∷ x12 ∷ []) h = absurd (omega arith)
-of-six (x11 ∷ x12 ∷ x22 ∷ []) h = absurd (omega arith)
-of-six (x11 ∷ x12 ∷ x22 ∷ x13 ∷ []) h = absurd (omega arith)
-of-six (x11 ∷ x12 ∷ x22 ∷ x13 ∷ x23 ∷ []) h = absurd (omega arith)
-of-six (x11 ∷ x12 ∷ x22 ∷ x13 ∷ x23 ∷ x33 ∷ []) h = six (negation x11) (negation x12) (negation x22) (negation x13) (negation x23) (negation x33)
-of-six (x11 ∷ x12 ∷ x22 ∷ x13 ∷ x23 ∷ x33 ∷ x ∷ xs) h = absurd (omega arith)
+of-six a h =
+    subst (λ (x : List Float). Related true x (negated a)) (tabulate-all 6 a h)
+    (six (negation (at a 0)) (negation (at a 1)) (negation (at a 2)) (negation (at a 3)) (negation (at a 4)) (negation (at a 5)))
 
 -- ---- two judgements: the tests agree, and what holds of both answers holds where both stand
 
@@ -45,13 +41,7 @@ both-judged R refuse k xs ys r q e h n = rw (← e) (go (allFinite xs) h)
     go false h = n
 
 refused-reversed : (f : Format) (k : ℕ) → 0 < k → Reversed (refusedEigen f k) (refusedEigen f k)
-refused-reversed f k h = record {
-  codes = refl;
-  made = refl;
-  marks = refl;
-  values = (λ e. absurd (omega arith));
-  columns = (λ e. absurd (omega arith));
-}
+refused-reversed f k h = record { codes = refl; made = refl; marks = refl; values = (λ e. absurd (omega arith)); columns = (λ e. absurd (omega arith)) }
 
 -- ---- the ends s and q of two runs: their vectors are finite together, and where their matrices are, their answers are reversed
 

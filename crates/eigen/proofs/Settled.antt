@@ -1,5 +1,5 @@
 -- Settled means that all three numbers beside the diagonal are under the limit: the test reads the largest of them.
-use Rattle.float.proofs.Words.{_≡_, refl, sym, ap, _∙_, true, false, List, arith, length, Float, Format, lt, isNan}
+use Rattle.float.proofs.Words.{_≡_, sym, ap, _∙_, true, false, List, arith, length, Float, Format, isNan}
 use Rattle.float.specs.Width.{F}
 use Rattle.float.specs.Constants.{limitF}
 use Rattle.float.specs.Exactly.{Exactly}
@@ -7,10 +7,9 @@ use Rattle.float.specs.Sign.{magnitudeOf, finite, allFinite}
 use Rattle.float.proofs.Finite.{at-finite, parts-finite, magnitude-finite}
 use Rattle.float.proofs.Under.{finite-no-nan, limit-finite}
 use Rattle.matrix.specs.declared.symmetric.Sym3.{Sym3}
-use Rattle.jacobi.specs.Largest.{sizeAt}
 use Rattle.jacobi.specs.declared.pairs.Pair.{Pair}
-use Rattle.jacobi.specs.declared.pairs.Pair.the-variants.{P12, P13, P23}
-use Rattle.jacobi.proofs.Largest.{all-under}
+use Rattle.jacobi.specs.declared.pairs.Pair.the-variants.{P13, P23}
+use Rattle.jacobi.proofs.Largest.{sizes-under}
 use Rattle.eigen.specs.Pairs.{apq}
 use Rattle.eigen.specs.Eigen3x3.{settledOf, lastOf, rankedOf, eigenOf}
 use Rattle.eigen.specs.Counted.{AllUnder}
@@ -19,20 +18,13 @@ use Rattle.eigen.proofs.Answered.{answered}
 use Rattle.eigen.proofs.Full.{last-filled}
 use Rattle.eigen.proofs.eigen3x3.eigen_jacobi.Reads as eigen-jacobi
 
--- the number of a pair by its name among the three
-own-size : (a : List Float) (x : Pair) → sizeAt x (magnitudeOf (apq P12 a)) (magnitudeOf (apq P13 a)) (magnitudeOf (apq P23 a)) ≡ magnitudeOf (apq x a)
-own-size a P12 = refl
-own-size a P13 = refl
-own-size a P23 = refl
-
 pub settled-finite : (f : Format) (a : List Float) → length a ≡ 6 → allFinite a ≡ true → Exactly (settledOf f a ≡ true) (AllUnder f a)
 unfolding settledOf
 settled-finite f a n e =
     let size : (x : Float) → finite x ≡ true → isNan (magnitudeOf x) ≡ false =
     λ (x : Float) (h : finite x ≡ true). finite-no-nan (magnitudeOf x) (magnitude-finite x h) in
-    let g = at-finite a e in
-    let u = all-under _ _ _ (limitF f) (limit-finite f) (size (apq P13 a) (g 3 (omega arith))) (size (apq P23 a) (g 4 (omega arith))) in
-    ((λ h x. sym (ap (λ (y : Float). lt y (limitF f)) (own-size a x)) ∙ u .0 h x), (λ h. u .1 (λ x. ap (λ (y : Float). lt y (limitF f)) (own-size a x) ∙ h x)))
+    sizes-under (λ (o : Pair). magnitudeOf (apq o a)) (limitF f) (limit-finite f) (size (apq P13 a) (at-finite a e 3 (omega arith)))
+    (size (apq P23 a) (at-finite a e 4 (omega arith)))
 
 -- of the answer, and of the call: of any answer within the promise that the source states
 pub settled-means : (f : Format) (a : List Float) → length a ≡ 6 → eigenOf f a .code ≡ 0

@@ -1,24 +1,24 @@
 -- A branch on the finite test is one way through `judged`, and what holds of both ways holds of it: `judged` is a choice by that test. A call has three ways,
 -- and
 -- only the one on which nothing is refused leaves code 0.
-use Rattle.float.proofs.Words.{_≡_, refl, sym, _∙_, Bool, true, false, List, [], ℕ, arith, Float}
+use Rattle.float.proofs.Words.{[], _≡_, refl, sym, _∙_, Bool, true, false, List, ℕ, arith, Float}
 use Rattle.float.specs.Sign.{allFinite}
 use Rattle.float.specs.Judged.{judged, judgedCall}
 use Rattle.float.proofs.Choice.{by-test}
 
-module _ {A : Type 0} (refuse : ℕ → A) (k : ℕ) (xs : List Float) (r : A) where
-  -- t is what a callee answered that promised the test
-  pub stands : {t : Bool} → t ≡ allFinite xs → t ≡ true → judged refuse k xs r ≡ r
-  unfolding judged
-  stands e h = rw (sym e ∙ h)
+-- t is what a callee answered that promised the test
+pub stands : {A : Type 0} (xs : List Float) {t : Bool} → t ≡ allFinite xs → t ≡ true → (refuse : ℕ → A) (k : ℕ) (r : A) → judged refuse k xs r ≡ r
+unfolding judged
+stands xs e h refuse k r = rw (sym e ∙ h)
 
-  pub refuses : {t : Bool} → t ≡ allFinite xs → t ≡ false → judged refuse k xs r ≡ refuse k
-  unfolding judged
-  refuses e h = rw (sym e ∙ h)
+pub refuses : {A : Type 0} (xs : List Float) {t : Bool} → t ≡ allFinite xs → t ≡ false → (refuse : ℕ → A) (k : ℕ) (r : A) → judged refuse k xs r ≡ refuse k
+unfolding judged
+refuses xs e h refuse k r = rw (sym e ∙ h)
 
-  pub by-judged : (P : A → Type 0) → (allFinite xs ≡ true → P r) → (allFinite xs ≡ false → P (refuse k)) → P (judged refuse k xs r)
-  unfolding judged
-  by-judged P h g = by-test P (allFinite xs) r (refuse k) h g
+by-judged : {A : Type 0} (refuse : ℕ → A) (k : ℕ) (xs : List Float) (r : A) (P : A → Type 0)
+    → (allFinite xs ≡ true → P r) → (allFinite xs ≡ false → P (refuse k)) → P (judged refuse k xs r)
+unfolding judged
+by-judged refuse k xs r P h g = by-test P (allFinite xs) r (refuse k) h g
 
 -- of no numbers there is nothing to refuse
 pub unjudged : {A : Type 0} (refuse : ℕ → A) (k : ℕ) (r : A) → judged refuse k [] r ≡ r

@@ -7,22 +7,6 @@ use Rattle.float.specs.Sign.{finite}
 use Rattle.float.proofs.Finite.{both-true}
 use Rattle.float.proofs.Keys.{key-below, key-not-below, below-of-keys, keyed}
 
--- ---- three finite floats, by their keys
-
-finite-under : (a b l : Float) → finite a ≡ true → finite b ≡ true → finite l ≡ true → lt a b ≡ true → lt b l ≡ true → lt a l ≡ true
-finite-under a b l p q r e h =
-    let g = keyed a b l p q r in
-    let i = key-below (g .L) (g .K) a b (g .one) (g .two) e in
-    let j = key-below (g .L) (g .K) b l (g .two) (g .three) h in
-    below-of-keys (g .L) (g .K) a l (g .one) (g .three) (omega arith)
-
-finite-not-above : (b x l : Float) → finite b ≡ true → finite x ≡ true → finite l ≡ true → lt b x ≡ false → lt b l ≡ true → lt x l ≡ true
-finite-not-above b x l p q r e h =
-    let g = keyed b x l p q r in
-    let i = key-not-below (g .L) (g .K) b x (g .one) (g .two) e in
-    let j = key-below (g .L) (g .K) b l (g .one) (g .three) h in
-    below-of-keys (g .L) (g .K) x l (g .two) (g .three) (omega arith)
-
 -- ---- any floats
 
 pub under : (a b l : Float) → finite l ≡ true → lt a b ≡ true → lt b l ≡ true → lt a l ≡ true
@@ -36,7 +20,13 @@ under (inf s) (fin t n d) (fin u k g) f e h = e
 under (fin s m i) nan (fin u k g) f e h = absurd (false≢true e)
 under (fin s m i) (inf true) (fin u k g) f e h = absurd (false≢true e)
 under (fin s m i) (inf false) (fin u k g) f e h = absurd (false≢true h)
-under (fin s m i) (fin t n d) (fin u k g) f e h = finite-under (fin s m i) (fin t n d) (fin u k g) refl refl refl e h
+under (fin s m i) (fin t n d) (fin u k g) f e h =
+    let a = fin s m i in
+    let b = fin t n d in
+    let l = fin u k g in
+    let o = keyed a b l refl refl refl in
+    below-of-keys (o .L) (o .K) a l (o .one) (o .three)
+    (omega (arith, key-below (o .L) (o .K) a b (o .one) (o .two) e, key-below (o .L) (o .K) b l (o .two) (o .three) h))
 
 pub not-above : (b x l : Float) → finite l ≡ true → isNan x ≡ false → lt b x ≡ false → lt b l ≡ true → lt x l ≡ true
 unfolding lt finite isNan
@@ -51,7 +41,13 @@ not-above (inf s) (fin t m d) (fin u k g) f n e h = absurd (true≢false (sym h 
 not-above (fin s m i) nan (fin u k g) f n e h = absurd (true≢false n)
 not-above (fin s m i) (inf true) (fin u k g) f n e h = refl
 not-above (fin s m i) (inf false) (fin u k g) f n e h = absurd (true≢false e)
-not-above (fin s m i) (fin t q d) (fin u k g) f n e h = finite-not-above (fin s m i) (fin t q d) (fin u k g) refl refl refl e h
+not-above (fin s m i) (fin t q d) (fin u k g) f n e h =
+    let b = fin s m i in
+    let x = fin t q d in
+    let l = fin u k g in
+    let o = keyed b x l refl refl refl in
+    below-of-keys (o .L) (o .K) x l (o .two) (o .three)
+    (omega (arith, key-not-below (o .L) (o .K) b x (o .one) (o .two) e, key-below (o .L) (o .K) b l (o .one) (o .three) h))
 
 -- ---- numbers that are no NaN: finite ones, and their sums
 

@@ -1,4 +1,3 @@
-pub mod Chosen
 pub mod Negated
 pub mod Run
 pub mod Moves

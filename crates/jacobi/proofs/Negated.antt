@@ -7,6 +7,7 @@ use Rattle.float.proofs.Words.{mul, lt, eq}
 use Rattle.float.specs.Choice.{pick}
 use Rattle.float.specs.Constants.{zeroF, twoF, epsilonF}
 use Rattle.float.specs.Sign.{magnitudeOf, finite}
+use Rattle.float.proofs.Choice.{chosen}
 use Rattle.float.proofs.Negation.{Rel, flip, sub-rel, magnitude-rel, eq-rel, zero-rel, exact, mul-flip, div-flip}
 use Rattle.float.proofs.Zeros.{finite-of-eq, zero-level}
 use Rattle.jacobi.specs.Rotation.{largerOf, isGone, tinyDiagonal, levelDiagonal, thetaOf, tangentOf, noTurn, evenTurn, turnBy, rotationOf}
@@ -16,11 +17,7 @@ use Rattle.jacobi.specs.declared.rotation.Rotation.{Rotation}
 
 -- either of two magnitudes, as `largerOf` takes it
 of-larger : (P : Float → Type 0) (m : ℕ) (e : ℤ) (n : ℕ) (d : ℤ) → ((k : ℕ) (g : ℤ) → P (fin false k g)) → P (largerOf (fin false m e) (fin false n d))
-of-larger P m e n d h = go (lt (fin false n d) (fin false m e))
-  where
-    go : (t : Bool) → P (pick t (fin false m e) (fin false n d))
-    go true = h m e
-    go false = h n d
+of-larger P m e n d h = chosen P (lt (fin false n d) (fin false m e)) (fin false m e) (fin false n d) (h m e) (h n d)
 
 no-infinite : (t s : Bool) → finite (cond t (inf s) nan) ≡ true → ⊥
 unfolding finite

@@ -19,11 +19,9 @@ module _ (n : ℕ) (wrong : Float → Float → Bool) where
   module _ {C : Type 0} (swap : ℕ → ℕ → C → C) where
     ordered-values : (i j : ℕ) (w : Ranked C) → ordered n wrong swap i j w .values ≡ orderedValues i j (w .values)
     unfolding ordered
-    ordered-values i j w = go (wrong (at (w .values) i) (at (w .values) j))
-      where
-        go : (t : Bool) → pick t (swapped n wrong swap i j w) w .values ≡ pick t (tabulate n (λ (c : ℕ). at (w .values) (exchanged i j c))) (w .values)
-        go true = refl
-        go false = refl
+    ordered-values i j w =
+        let test = wrong (at (w .values) i) (at (w .values) j) in
+        by-test (λ (v : Ranked C). v .values ≡ orderedValues i j (w .values)) test (swapped n wrong swap i j w) w (λ e. rw e) (λ e. rw e)
 
     ordered3-values : (w : Ranked C) → ordered3 n wrong swap w .values ≡ orderedValues 1 2 (orderedValues 0 2 (orderedValues 0 1 (w .values)))
     ordered3-values w = rw (ordered-values 1 2, ordered-values 0 2, ordered-values 0 1)

@@ -24,14 +24,10 @@ module _ {S : Type 0} (step : S → S) (done : S → Bool) where
   leaves k n s h e = sym (stops (k - n) s h) ∙ e
 
   pub goes-once : (k n : ℕ) (s : S) {w : S} → n < k → done s ≡ false → run step done (k - n) s ≡ w → run step done (k - (n + 1)) (step s) ≡ w
-  goes-once k n s l h e =
-      let left : k - n ≡ suc (k - (n + 1)) = omega arith in
-      sym (goes (k - (n + 1)) s h) ∙ (rw left at e)
+  goes-once k n s l h e = let left : k - n ≡ suc (k - (n + 1)) = omega arith in sym (goes (k - (n + 1)) s h) ∙ (rw left at e)
 
   pub used-up : (k n : ℕ) (s : S) {w : S} → k ≤ n → run step done (k - n) s ≡ w → s ≡ w
-  used-up k n s l e =
-      let none : k - n ≡ 0 = omega arith in
-      sym (ends s) ∙ (rw none at e)
+  used-up k n s l e = let none : k - n ≡ 0 = omega arith in sym (ends s) ∙ (rw none at e)
 
   -- ---- the run is a row of states
 

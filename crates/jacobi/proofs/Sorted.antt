@@ -1,6 +1,6 @@
 -- Finite values put in order are in order, in either direction: upward a value ranks by its key, a natural number, and downward by the key of its negation; and
 -- the least of two or three ranks comes first.
-use Rattle.float.proofs.Words.{_≡_, Bool, true, not, List, ℕ, zero, suc, _+_, _≤_, _<_, arith, Float, neg, lt, le, not-true, not-false}
+use Rattle.float.proofs.Words.{_≡_, Bool, true, not, List, ℕ, zero, suc, _≤_, _<_, arith, Float, neg, lt, le, not-true, not-false}
 use Rattle.float.specs.Sign.{finite}
 use Rattle.float.proofs.Keys.{key, Within, le-key, key-below, key-not-below, key-rel, keyed}
 use Rattle.float.proofs.Negation.{negation}
@@ -33,15 +33,12 @@ upward-ties L K = record {
   tells = le-key L K;
 }
 
-mirror : (L K : ℕ) (x : Float) → Within L K x → key L K x + key L K (neg x) ≡ K + K
-mirror L K x p = key-rel L K (negation x) p
-
 pub downward : Direction descending atLeast
 downward L K = record {
   rank = (λ x. key L K (neg x));
-  falls = (λ x y p q e. let l = key-below L K x y p q e in omega (arith, mirror L K x p, mirror L K y q));
-  rises = (λ x y p q e. let l = key-not-below L K x y p q e in omega (arith, mirror L K x p, mirror L K y q));
-  tells = (λ x y p q l. le-key L K y x q p (omega (arith, mirror L K x p, mirror L K y q)));
+  falls = (λ x y p q e. omega (arith, key-below L K x y p q e, key-rel L K (negation x) p, key-rel L K (negation y) q));
+  rises = (λ x y p q e. omega (arith, key-not-below L K x y p q e, key-rel L K (negation x) p, key-rel L K (negation y) q));
+  tells = (λ x y p q l. le-key L K y x q p (omega (arith, key-rel L K (negation x) p, key-rel L K (negation y) q)));
 }
 
 -- ---- ranks that rise

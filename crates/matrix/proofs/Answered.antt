@@ -1,5 +1,5 @@
 -- A place is answered exactly where its row and its column are below the size; what is read or written there goes by the same two tests.
-use Rattle.float.proofs.Words.{_≡_, refl, sym, ap, _∙_, subst⁻¹, Bool, true, false, ℕ, _*_, _≤_, _<_, arith, ltb, ltb-true, lt-ltb, le-ltb}
+use Rattle.float.proofs.Words.{_≡_, refl, sym, ap, _∙_, Bool, true, false, ℕ, _*_, _≤_, _<_, arith, ltb, ltb-true, lt-ltb, le-ltb}
 use Rattle.float.specs.Choice.{pick}
 use Rattle.matrix.specs.Answer.{Answer, done, refused, place}
 use Rattle.matrix.specs.Places.{squareIndex, triangular, packedIndex}
@@ -10,19 +10,14 @@ use Rattle.matrix.proofs.Placing.{square-below, packed-below}
 
 -- ---- what the answer says of its code and value
 
-pub at-place : {p : Place} {i : ℕ} {a : Answer ℕ} → p ≡ At i → place p ≡ a → done i ≡ a
-at-place e h = sym (ap place e) ∙ h
-
-pub no-place : {p : Place} {a : Answer ℕ} → p ≡ Outside → place p ≡ a → refused 8 0 ≡ a
-no-place e h = sym (ap place e) ∙ h
-
 never : {A : Type 0} {x z : A} → done x ≡ refused 8 z → ⊥
 never {A} e = let d : _≡_ {A = ℕ} 0 8 = ap (λ (a : Answer A). a .code) e in omega arith
 
-record Found (n r c i k : ℕ) : Type 0 where
-  row : r < n
-  column : c < n
-  is : i ≡ k
+-- the place of a row and a column below the size
+pub record Found (n r c i k : ℕ) : Type 0 where
+  pub row : r < n
+  pub column : c < n
+  pub is : i ≡ k
 
 module _ (n r c : ℕ) where
   -- ---- the two tests
@@ -41,33 +36,33 @@ module _ (n r c : ℕ) where
 
   -- ---- a place that was answered
 
-  found : (i k : ℕ) → done i ≡ indexOf n r c k → Found n r c i k
+  pub found : {p : Place} {i : ℕ} (k : ℕ) → p ≡ At i → place p ≡ indexOf n r c k → Found n r c i k
   unfolding inside
-  found i k = go (ltb r n) (ltb c n) refl refl
+  found {i = i} k a h = go (ltb r n) (ltb c n) refl refl (sym (ap place a) ∙ h)
     where
       go : (t u : Bool) → ltb r n ≡ t → ltb c n ≡ u → done i ≡ pick t (pick u (done k) (refused 8 0)) (refused 8 0) → Found n r c i k
       go true true d e h = record { row = ltb-true r n d; column = ltb-true c n e; is = ap (λ (a : Answer ℕ). a .value) h }
       go true false d e h = absurd (never h)
       go false u d e h = absurd (never h)
 
-  pub found-square : {i : ℕ} → done i ≡ indexOf n r c (squareIndex n r c) → i < n * n
-  found-square {i} e = let f = found i (squareIndex n r c) e in subst⁻¹ (λ (j : ℕ). j < n * n) (f .is) (square-below (f .row) (f .column))
+  pub found-square : {p : Place} {i : ℕ} → p ≡ At i → place p ≡ indexOf n r c (squareIndex n r c) → i < n * n
+  found-square a h = let f = found (squareIndex n r c) a h in rw (f .is) (square-below (f .row) (f .column))
 
-  pub found-packed : {i : ℕ} → done i ≡ indexOf n r c (packedIndex r c) → i < triangular n
-  found-packed {i} e = let f = found i (packedIndex r c) e in subst⁻¹ (λ (j : ℕ). j < triangular n) (f .is) (packed-below (f .row) (f .column))
-
-  -- what is made of the place that was answered is the answer of the same tests
-  pub used : {A : Type 0} {i : ℕ} (k : ℕ) (g : ℕ → A) (z : A) → done i ≡ indexOf n r c k → done (g i) ≡ inside n r c (g k) z
-  used {i = i} k g z e = let f = found i k e in ap (λ (j : ℕ). done (g j)) (f .is) ∙ within (g k) z (f .row) (f .column)
+  pub found-packed : {p : Place} {i : ℕ} → p ≡ At i → place p ≡ indexOf n r c (packedIndex r c) → i < triangular n
+  found-packed a h = let f = found (packedIndex r c) a h in rw (f .is) (packed-below (f .row) (f .column))
 
   -- ---- a place that was refused
 
-  pub refused-too : {A : Type 0} (k : ℕ) (x z : A) → refused 8 0 ≡ indexOf n r c k → refused 8 z ≡ inside n r c x z
+  pub refused-too : {A : Type 0} {p : Place} (k : ℕ) (x z : A) → p ≡ Outside → place p ≡ indexOf n r c k → refused 8 z ≡ inside n r c x z
   unfolding inside
-  refused-too k x z = go (ltb r n) (ltb c n)
+  refused-too k x z o e = go (ltb r n) (ltb c n) (sym (ap place o) ∙ e)
     where
       go : (t u : Bool) → refused 8 0 ≡ pick t (pick u (done k) (refused 8 0)) (refused 8 0)
           → refused 8 z ≡ pick t (pick u (done x) (refused 8 z)) (refused 8 z)
       go true true h = absurd (never (sym h))
       go true false h = refl
       go false u h = refl
+
+-- what is read or written at a place that was answered is the answer of the same tests
+pub inside-is : {n r c i k : ℕ} → Found n r c i k → {A : Type 0} (x z : A) → inside n r c x z ≡ done x
+inside-is {n} {r} {c} f x z = sym (within n r c x z (f .row) (f .column))

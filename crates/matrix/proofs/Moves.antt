@@ -1,10 +1,11 @@
 -- A square list is the table of its entries, since i = i % n + (i / n) * n; so a move that is done twice is undone entry by entry.
 use Rattle.float.proofs.Words.{_≡_, refl, sym, ap, _∙_, subst, Bool, true, false, List, ℕ, zero, suc, _*_, _/_, _%_, _≤_, _<_, mod-lt, div-add-mod'}
-use Rattle.float.proofs.Words.{div-lt-iff-lt-mul, div-eq-of-lt, mod-eq-of-lt, add-mul-div-right, add-mul-mod-self-right, arith, ltb, eqb, length, Float, neg}
-use Rattle.float.proofs.Words.{ltb-true, ltb-false, eqb-true, eqb-false, eq-eqb, ne-eqb}
+use Rattle.float.proofs.Words.{div-lt-iff-lt-mul, div-eq-of-lt, mod-eq-of-lt, add-mul-div-right, add-mul-mod-self-right, arith, eqb, length, Float, neg, eq-eqb}
+use Rattle.float.proofs.Words.{ne-eqb}
 use Rattle.float.specs.Choice.{pick}
 use Rattle.float.specs.Sign.{finite, allFinite}
 use Rattle.float.proofs.Finite.{at-finite}
+use Rattle.float.proofs.Choice.{either, by-eqb}
 use Rattle.float.proofs.Negation.{neg-twice}
 use Rattle.matrix.specs.Places.{at, squareIndex}
 use Rattle.matrix.specs.Square.{squareOf, entryOf, transposeOf, exchanged, exchangeOf, negateOf}
@@ -67,15 +68,7 @@ transpose-twice n xs e =
 
 -- the column that stands at c, by cases: c is i, or it is j, or neither
 by-column : (P : ℕ → Type 0) (i j c : ℕ) → (c ≡ i → P j) → ((c ≡ i → ⊥) → c ≡ j → P i) → ((c ≡ i → ⊥) → (c ≡ j → ⊥) → P c) → P (exchanged i j c)
-by-column P i j c at-i at-j other = first (eqb c i) refl
-  where
-    second : (c ≡ i → ⊥) → (t : Bool) → eqb c j ≡ t → P (pick t i c)
-    second n true e = at-j n (eqb-true c j e)
-    second n false e = other n (eqb-false c j e)
-
-    first : (t : Bool) → eqb c i ≡ t → P (pick t j (pick (eqb c j) i c))
-    first true e = at-i (eqb-true c i e)
-    first false e = second (eqb-false c i e) (eqb c j) refl
+by-column P i j c at-i at-j other = by-eqb P c i j (pick (eqb c j) i c) at-i (λ n. by-eqb P c j i c (at-j n) (other n))
 
 pub exchanged-below : {n : ℕ} (i j c : ℕ) → i < n → j < n → c < n → exchanged i j c < n
 exchanged-below {n} i j c h k l = by-column (λ (d : ℕ). d < n) i j c (λ e. k) (λ m e. h) (λ m o. l)
@@ -97,12 +90,12 @@ exchange-twice n i j xs h k e =
     entry-of n (λ (r c : ℕ). entryOf n xs r (exchanged i j c)) r (exchanged i j c) l (exchanged-below i j c h k m)
     ∙ ap (entryOf n xs r) (exchanged-twice i j c))
 
-pub exchange-same : (n i j : ℕ) (xs : List Float) → i ≡ j → length xs ≡ n * n → exchangeOf n i j xs ≡ xs
+pub exchange-same : (n i j : ℕ) (xs : List Float) → i ≡ j → length xs ≡ n * n → xs ≡ exchangeOf n i j xs
 exchange-same n i j xs q e =
-    undone n (λ (r c : ℕ). entryOf n xs r (exchanged i j c)) xs e
-    (λ r c h k. ap (entryOf n xs r) (by-column (λ (d : ℕ). d ≡ c) i j c (λ p. sym (p ∙ q)) (λ m p. q ∙ sym p) (λ m o. refl)))
+    sym (undone n (λ (r c : ℕ). entryOf n xs r (exchanged i j c)) xs e
+    (λ r c h k. ap (entryOf n xs r) (by-column (λ (d : ℕ). d ≡ c) i j c (λ p. sym (p ∙ q)) (λ m p. q ∙ sym p) (λ m o. refl))))
 
-pub exchange-symmetric : (n i j : ℕ) (xs : List Float) → exchangeOf n i j xs ≡ exchangeOf n j i xs
+exchange-symmetric : (n i j : ℕ) (xs : List Float) → exchangeOf n i j xs ≡ exchangeOf n j i xs
 exchange-symmetric n i j xs =
     square-same n (λ (r c : ℕ). entryOf n xs r (exchanged i j c)) (λ (r c : ℕ). entryOf n xs r (exchanged j i c))
     (λ r c h k.
@@ -113,12 +106,9 @@ exchange-symmetric n i j xs =
     (λ m o. by-column (λ (d : ℕ). c ≡ d) j i c (λ q. absurd (o q)) (λ p q. absurd (m q)) (λ p q. refl))))
 
 -- the two columns by their order
-pub exchange-ordered : (n i j a b : ℕ) (xs : List Float) → (i < j → (i ≡ a) × (j ≡ b)) → (j ≤ i → (i ≡ b) × (j ≡ a)) → exchangeOf n i j xs ≡ exchangeOf n a b xs
-exchange-ordered n i j a b xs rising falling = go (ltb i j) refl
-  where
-    go : (t : Bool) → ltb i j ≡ t → exchangeOf n i j xs ≡ exchangeOf n a b xs
-    go true e = let p = rising (ltb-true i j e) in cc (p .0, p .1)
-    go false e = let p = falling (ltb-false i j e) in cc (p .0, p .1, exchange-symmetric n b a xs)
+pub exchange-ordered : (n i j a b : ℕ) (xs : List Float) → (i < j → (i ≡ a) × (j ≡ b)) → (j ≤ i → (i ≡ b) × (j ≡ a)) → exchangeOf n a b xs ≡ exchangeOf n i j xs
+exchange-ordered n i j a b xs rising falling =
+    either i j (λ l. let p = rising l in cc (p .0, p .1)) (λ l. let p = falling l in cc (p .0, p .1, exchange-symmetric n b a xs))
 
 pub negate-twice : (n i : ℕ) (xs : List Float) → length xs ≡ n * n → negateOf n i (negateOf n i xs) ≡ xs
 negate-twice n i xs e =

@@ -43,8 +43,7 @@ unfolding inside
 inside-symmetric n r c x z = go (ltb r n) (ltb c n)
   where
     go : (t u : Bool) → pick t (pick u (done x) (refused 8 z)) (refused 8 z) ≡ pick u (pick t (done x) (refused 8 z)) (refused 8 z)
-    go true true = refl
-    go true false = refl
+    go true u = refl
     go false true = refl
     go false false = refl
 

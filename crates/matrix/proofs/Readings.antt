@@ -10,9 +10,9 @@ use Rattle.matrix.specs.declared.answers.Entry.the-variants as entry-is
 use Rattle.matrix.specs.declared.answers.Scalar.{Scalar}
 use Rattle.matrix.specs.declared.answers.Scalar.the-variants as scalar-is
 
--- a reading that can be taken back tells apart what it reads
-told-apart : {A B : Type 0} (read : A → B) (back : B → A) → ((x : A) → back (read x) ≡ x) → (x y : A) → read x ≡ read y → x ≡ y
-told-apart read back is x y e = sym (is x) ∙ ap back e ∙ is y
+-- a reading that can be taken back names one thing
+named-by : {A B : Type 0} (read : A → B) (back : B → A) → ((x : A) → back (read x) ≡ x) → (b : B) → OneAnswer (λ (x : A). read x ≡ b)
+named-by read back is b x y e h = sym (is x) ∙ ap back (e ∙ sym h) ∙ is y
 
 -- ---- places
 
@@ -24,11 +24,8 @@ unfolding place-back
 place-is-back (place-is.At i) = refl
 place-is-back place-is.Outside = refl
 
-pub same-place : (p q : Place) → place p ≡ place q → p ≡ q
-same-place = told-apart place place-back place-is-back
-
 pub named-place : (a : Answer ℕ) → OneAnswer (λ (p : Place). place p ≡ a)
-named-place a p q e h = same-place p q (e ∙ sym h)
+named-place = named-by place place-back place-is-back
 
 -- ---- entries and scalars, of either format
 
@@ -41,11 +38,8 @@ module _ (f : Format) where
   entry-is-back (entry-is.Number x) = refl
   entry-is-back entry-is.Outside = refl
 
-  pub same-entry : (x y : Entry) → entry f x ≡ entry f y → x ≡ y
-  same-entry = told-apart (entry f) entry-back entry-is-back
-
   pub named-entry : (a : Answer Float) → OneAnswer (λ (x : Entry). entry f x ≡ a)
-  named-entry a x y e h = same-entry x y (e ∙ sym h)
+  named-entry = named-by (entry f) entry-back entry-is-back
 
   scalar-back : Answer Float → Scalar
   scalar-back a =
@@ -59,8 +53,5 @@ module _ (f : Format) where
   scalar-is-back scalar-is.InputNotFinite = refl
   scalar-is-back scalar-is.AnswerNotFinite = refl
 
-  pub same-scalar : (x y : Scalar) → scalar f x ≡ scalar f y → x ≡ y
-  same-scalar = told-apart (scalar f) scalar-back scalar-is-back
-
   pub named-scalar : (a : Answer Float) → OneAnswer (λ (x : Scalar). scalar f x ≡ a)
-  named-scalar a x y e h = same-scalar x y (e ∙ sym h)
+  named-scalar = named-by (scalar f) scalar-back scalar-is-back

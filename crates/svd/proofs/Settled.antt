@@ -1,6 +1,6 @@
 -- Settled means that the sums of all three pairs are under the limit: the test reads the largest of them. A sum of two magnitudes may overflow, but it is no
 -- NaN.
-use Rattle.float.proofs.Words.{_≡_, refl, sym, ap, _∙_, true, false, List, ℕ, _<_, arith, length, Float, Format, lt, add, isNan}
+use Rattle.float.proofs.Words.{_≡_, sym, ap, _∙_, true, false, List, ℕ, _<_, arith, length, Float, Format, add, isNan}
 use Rattle.float.specs.Width.{F}
 use Rattle.float.specs.Constants.{limitF}
 use Rattle.float.specs.Exactly.{Exactly}
@@ -9,10 +9,8 @@ use Rattle.float.proofs.Finite.{at-finite, parts-finite, magnitude-finite}
 use Rattle.float.proofs.Under.{add-no-nan, limit-finite}
 use Rattle.matrix.specs.Places.{at}
 use Rattle.matrix.specs.declared.square.Mat3.{Mat3}
-use Rattle.jacobi.specs.Largest.{sizeAt}
 use Rattle.jacobi.specs.declared.pairs.Pair.{Pair}
-use Rattle.jacobi.specs.declared.pairs.Pair.the-variants.{P12, P13, P23}
-use Rattle.jacobi.proofs.Largest.{all-under}
+use Rattle.jacobi.proofs.Largest.{sizes-under}
 use Rattle.svd.specs.Pairs.{sizeOf}
 use Rattle.svd.specs.Svd3x3.{settledOf, lastOf, svdOf}
 use Rattle.svd.specs.Counted.{AllUnder}
@@ -21,22 +19,13 @@ use Rattle.svd.proofs.Answered.{answered}
 use Rattle.svd.proofs.Sizes.{last-full}
 use Rattle.svd.proofs.svd3x3.svd.Reads as svd
 
--- the sum of a pair by its name among the three
-own-size : (f : Format) (a : List Float) (x : Pair) → sizeAt x (sizeOf f P12 a) (sizeOf f P13 a) (sizeOf f P23 a) ≡ sizeOf f x a
-own-size f a P12 = refl
-own-size f a P13 = refl
-own-size f a P23 = refl
-
 pub settled-finite : (f : Format) (a : List Float) → length a ≡ 9 → allFinite a ≡ true → Exactly (settledOf f a ≡ true) (AllUnder f a)
 unfolding settledOf
 settled-finite f a n e =
     let g : (i : ℕ) → i < 9 → finite (magnitudeOf (at a i)) ≡ true = λ (i : ℕ) (l : i < 9). magnitude-finite (at a i) (at-finite a e i (omega arith)) in
     let no : (i j : ℕ) → i < 9 → j < 9 → isNan (add f (magnitudeOf (at a i)) (magnitudeOf (at a j))) ≡ false =
     λ (i j : ℕ) (l : i < 9) (m : j < 9). add-no-nan f _ _ (g i l) (g j m) in
-    let u = all-under _ _ _ (limitF f) (limit-finite f) (no 6 2 (omega arith) (omega arith)) (no 7 5 (omega arith) (omega arith)) in (
-      (λ h x. sym (ap (λ (y : Float). lt y (limitF f)) (own-size f a x)) ∙ u .0 h x),
-      (λ h. u .1 (λ x. ap (λ (y : Float). lt y (limitF f)) (own-size f a x) ∙ h x)),
-    )
+    sizes-under (λ (o : Pair). sizeOf f o a) (limitF f) (limit-finite f) (no 6 2 (omega arith) (omega arith)) (no 7 5 (omega arith) (omega arith))
 
 -- of the answer, and of the call: of any answer within the promise that the source states
 pub settled-means : (f : Format) (a : List Float) → length a ≡ 9 → svdOf f a .code ≡ 0

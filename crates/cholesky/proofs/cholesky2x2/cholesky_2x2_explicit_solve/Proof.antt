@@ -9,9 +9,8 @@ returns-3 : tie.Need-returns-3
 unfolding solve2Of
 returns-3 c =
     let past = c .before .before .before .before .before .before .before in
-    let l = past .before .if1 .left in
     let k = past .if2 .left in
-    rw (le-leb 2 _ l, le-leb 2 _ k, ← tabulate-take 2 (past .before .before .before .before .args .b .now) k)
+    rw (le-leb 2 _ (past .before .if1 .left), le-leb 2 _ k, ← tabulate-take 2 (past .before .before .before .before .args .b .now) k)
     (rw (c .before .before .before .judged-solution .ensures) at (c .before .before .put2 .ensures))
 
 pub cholesky-2x2-explicit-solve-spec : {M : Type 1} → statement M

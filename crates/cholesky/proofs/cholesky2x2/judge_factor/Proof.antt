@@ -8,5 +8,5 @@ pub judge-factor-spec : {M : Type 1} → statement M
 judge-factor-spec = tie.close (tie.spec
     (λ c. rw (ne-eqb _ 0 (c .if1 .taken), unjudged))
     (λ c. search needs) (λ c κs. search needs)
-    (λ c. rw (eq-eqb _ 0 (c .before .before .before .if1 .left), stands _ _ _ _ (c .before .all-finite .ensures) (c .if2 .taken)))
-    (λ c. rw (eq-eqb _ 0 (c .before .before .before .if1 .left), refuses _ _ _ _ (c .before .all-finite .ensures) (c .if2 .left))))
+    (λ c. rw (eq-eqb _ 0 (c .before .before .before .if1 .left), stands _ (c .before .all-finite .ensures) (c .if2 .taken)))
+    (λ c. rw (eq-eqb _ 0 (c .before .before .before .if1 .left), refuses _ (c .before .all-finite .ensures) (c .if2 .left))))

@@ -5,13 +5,9 @@ use Rattle.cholesky.specs.Factor.{factor3Of}
 use Rattle.cholesky.proofs.cholesky3x3.cholesky_3x3_explicit_factor.Statement.{statement}
 use Rattle.cholesky.proofs.cholesky3x3.cholesky_3x3_explicit_factor.Tie as tie
 
-returns : tie.Need-returns
-unfolding factor3Of
-returns c =
-    rw (stands _ _ _ _ (c .before .before .before .all-finite .ensures) (c .before .before .if1 .taken))
-    (rw (c .before .steps .ensures) at (c .judge-factor .ensures))
-
 pub cholesky-3x3-explicit-factor-spec : {M : Type 1} → statement M
 cholesky-3x3-explicit-factor-spec = tie.close (tie.spec
-    (λ c. search needs) (λ c κs. search needs) (λ c κs. search needs) (λ c κs. search needs) returns
-    (λ c. unfold factor3Of in rw (refuses _ _ _ _ (c .before .all-finite .ensures) (c .if1 .left))))
+    (λ c. search needs) (λ c κs. search needs) (λ c κs. search needs) (λ c κs. search needs)
+    (λ c. unfold factor3Of in
+    rw (stands _ (c .before .before .before .all-finite .ensures) (c .before .before .if1 .taken), c .judge-factor .ensures, c .before .steps .ensures))
+    (λ c. unfold factor3Of in rw (refuses _ (c .before .all-finite .ensures) (c .if1 .left))))

@@ -9,9 +9,8 @@ returns-3 : tie.Need-returns-3
 unfolding solve3Of
 returns-3 c =
     let past = c .before .before .before .before .before .before .before .before in
-    let l = past .before .if1 .left in
     let k = past .if2 .left in
-    rw (le-leb 3 _ l, le-leb 3 _ k, ← tabulate-take 3 (past .before .before .before .before .args .b .now) k)
+    rw (le-leb 3 _ (past .before .if1 .left), le-leb 3 _ k, ← tabulate-take 3 (past .before .before .before .before .args .b .now) k)
     (rw (c .before .before .before .judged-solution .ensures) at (c .before .before .put3 .ensures))
 
 pub cholesky-3x3-explicit-solve-spec : {M : Type 1} → statement M

@@ -4,12 +4,8 @@ use Rattle.float.proofs.Judged.{stands, refuses}
 use Rattle.cholesky.proofs.cholesky3x3.judged_solution.Statement.{statement}
 use Rattle.cholesky.proofs.cholesky3x3.judged_solution.Tie as tie
 
-returns : tie.Need-returns
-returns c =
-    rw (stands _ _ _ _ (c .before .before .before .both-finite .ensures) (c .before .before .if1 .taken), ← c .before .substitute .ensures)
-    (c .judge3 .ensures)
-
 pub judged-solution-spec : {M : Type 1} → statement M
 judged-solution-spec = tie.close (tie.spec
-    (λ c. search needs) (λ c. search needs) (λ c κs. search needs) (λ c κs. search needs) (λ c κs. search needs) (λ c κs. search needs) returns
-    (λ c. rw (refuses _ _ _ _ (c .before .before .both-finite .ensures) (c .before .if1 .left)) (c .refuse3 .ensures)))
+    (λ c. search needs) (λ c. search needs) (λ c κs. search needs) (λ c κs. search needs) (λ c κs. search needs) (λ c κs. search needs)
+    (λ c. rw (stands _ (c .before .before .before .both-finite .ensures) (c .before .before .if1 .taken), c .judge3 .ensures, c .before .substitute .ensures))
+    (λ c. rw (refuses _ (c .before .before .both-finite .ensures) (c .before .if1 .left)) (c .refuse3 .ensures)))

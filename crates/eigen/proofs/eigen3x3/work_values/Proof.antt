@@ -22,13 +22,6 @@ Inv-loop b₀ made₀ b made = (made .count ≤ 25) × (bareRunOf F (25 - made .
 abbrev μ-loop : tie.MeasureT-loop
 μ-loop b₀ made₀ b made = 25 - made .count
 
-returns : tie.Need-returns Inv-loop μ-loop
-unfolding bareRunOf
-returns c =
-    let l = c .before .before .before .before .before .loop in
-    let h = sym (tested F (l .b .«data») (c .before .before .find-largest-off-diag .ensures) (c .before .under-limit .ensures)) ∙ c .if2 .taken in
-    ap bare (leaves (bareStepOf F) done 25 (l .made .count) (state (l .b) (l .made)) h (l .inv .1))
-
 loop-again : tie.Need-loop-again Inv-loop μ-loop
 unfolding bareRunOf
 loop-again c =
@@ -43,14 +36,14 @@ loop-again c =
           ∙ goes-once (bareStepOf F) done 25 n (state (l .b) (l .made)) (omega arith) h (l .inv .1),
     )
 
-returns-2 : tie.Need-returns-2 Inv-loop μ-loop
-unfolding bareRunOf
-returns-2 c =
-    let l = c .before .before .loop in
-    ap bare (used-up (bareStepOf F) done 25 (l .made .count) (state (l .b) (l .made)) (omega arith) (l .inv .1))
-
 pub work-values-spec : {M : Type 1} → statement M
 work-values-spec = tie.close (tie.spec
     Inv-loop μ-loop
     (λ c. (omega arith, refl))
-    (λ c κs. search needs) (λ c κs. search needs) returns (λ c κs. search needs) (λ c. search needs) (λ c. search needs) loop-again returns-2)
+    (λ c κs. search needs) (λ c κs. search needs)
+    (λ c. unfold bareRunOf in
+    ap bare (leaves (bareStepOf F) done 25 _ _
+    (sym (tested F _ (c .before .before .find-largest-off-diag .ensures) (c .before .under-limit .ensures)) ∙ c .if2 .taken)
+    (c .before .before .before .before .before .loop .inv .1)))
+    (λ c κs. search needs) (λ c. search needs) (λ c. search needs) loop-again
+    (λ c. let l = c .before .before .loop in unfold bareRunOf in ap bare (used-up (bareStepOf F) done 25 (l .made .count) _ (omega arith) (l .inv .1))))

@@ -5,30 +5,10 @@ use Rattle.matrix.proofs.Answered.{within, row-outside, column-outside}
 use Rattle.matrix.proofs.square.square_place.Statement.{statement}
 use Rattle.matrix.proofs.square.square_place.Tie as tie
 
-returns : tie.Need-returns
-returns c =
-    let a = c .before .args in
-    row-outside (a .n) (a .r) (a .c) _ _ (c .if1 .taken)
-
-returns-2 : tie.Need-returns-2
-returns-2 c =
-    let a = c .before .before .args in
-    column-outside (a .n) (a .r) (a .c) _ _ (c .before .if1 .left) (c .if2 .taken)
-
-mul-t5 : tie.Need-mul-t5
-mul-t5 c =
-    let small = c .before .before .pre in
-    omega (arith, square-below (c .before .if1 .left) (c .if2 .left), mul-le-mul small small)
-
-add-t6 : tie.Need-add-t6
-add-t6 c =
-    let small = c .before .before .pre in
-    omega (arith, square-below (c .before .if1 .left) (c .if2 .left), mul-le-mul small small)
-
-returns-3 : tie.Need-returns-3
-returns-3 c =
-    let a = c .before .before .args in
-    within (a .n) (a .r) (a .c) _ _ (c .before .if1 .left) (c .if2 .left)
-
 pub square-place-spec : {M : Type 1} → statement M
-square-place-spec = tie.close (tie.spec returns returns-2 mul-t5 add-t6 returns-3)
+square-place-spec = tie.close (tie.spec
+    (λ c. row-outside _ _ _ _ _ (c .if1 .taken))
+    (λ c. column-outside _ _ _ _ _ (c .before .if1 .left) (c .if2 .taken))
+    (λ c. let s = c .before .before .pre in omega (arith, square-below (c .before .if1 .left) (c .if2 .left), mul-le-mul s s))
+    (λ c. let s = c .before .before .pre in omega (arith, square-below (c .before .if1 .left) (c .if2 .left), mul-le-mul s s))
+    (λ c. within _ _ _ _ _ (c .before .if1 .left) (c .if2 .left)))

@@ -21,13 +21,6 @@ Inv-loop b₀ u₀ v₀ made₀ b u v made = (made .count ≤ 25) × (runOf F (2
 abbrev μ-loop : tie.MeasureT-loop
 μ-loop b₀ u₀ v₀ made₀ b u v made = 25 - made .count
 
-returns : tie.Need-returns Inv-loop μ-loop
-unfolding runOf
-returns c =
-    let l = c .before .before .before .before .before .loop in
-    let h = sym (tested F (l .b .«data») (c .before .before .find-largest-off-diag-nonsym .ensures) (c .before .under-limit .ensures)) ∙ c .if2 .taken in
-    ap working (leaves (stepOf F) done 25 (l .made .count) (state (l .b) (l .u) (l .v) (l .made)) h (l .inv .1))
-
 loop-again : tie.Need-loop-again Inv-loop μ-loop
 unfolding runOf
 loop-again c =
@@ -44,15 +37,15 @@ loop-again c =
           ∙ goes-once (stepOf F) done 25 (l .made .count) (state (l .b) (l .u) (l .v) (l .made)) (omega arith) h (l .inv .1),
     )
 
-returns-2 : tie.Need-returns-2 Inv-loop μ-loop
-unfolding runOf
-returns-2 c =
-    let l = c .before .before .loop in
-    ap working (used-up (stepOf F) done 25 (l .made .count) (state (l .b) (l .u) (l .v) (l .made)) (omega arith) (l .inv .1))
-
 pub work-spec : {M : Type 1} → statement M
 work-spec = tie.close (tie.spec
     Inv-loop μ-loop (λ c κs. search needs) (λ c κs. search needs) (λ c κs. search needs) (λ c κs. search needs)
     (λ c. (omega arith, rw (c .set-identity2 .ensures, c .before .before .set-identity .ensures)))
-    (λ c κs. search needs) (λ c κs. search needs) returns (λ c κs. search needs) (λ c κs. search needs) (λ c κs. search needs) (λ c κs. search needs)
-    (λ c. search needs) (λ c. search needs) loop-again returns-2)
+    (λ c κs. search needs) (λ c κs. search needs)
+    (λ c. unfold runOf in
+    ap working (leaves (stepOf F) done 25 _ _
+    (sym (tested F _ (c .before .before .find-largest-off-diag-nonsym .ensures) (c .before .under-limit .ensures)) ∙ c .if2 .taken)
+    (c .before .before .before .before .before .loop .inv .1)))
+    (λ c κs. search needs) (λ c κs. search needs) (λ c κs. search needs) (λ c κs. search needs)
+    (λ c. search needs) (λ c. search needs) loop-again
+    (λ c. let l = c .before .before .loop in unfold runOf in ap working (used-up (stepOf F) done 25 (l .made .count) _ (omega arith) (l .inv .1))))

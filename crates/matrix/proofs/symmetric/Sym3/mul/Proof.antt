@@ -9,9 +9,8 @@ returns-3 : tie.Need-returns-3
 unfolding symMulOf
 returns-3 c =
     let past = c .before .before .before .before .before .before .before .before in
-    let l = past .before .if1 .left in
     let h = past .if2 .left in
-    rw (le-leb 3 _ l, le-leb 3 _ h, ← tabulate-take 3 (past .before .before .before .before .args .x .now) h)
+    rw (le-leb 3 _ (past .before .if1 .left), le-leb 3 _ h, ← tabulate-take 3 (past .before .before .before .before .args .x .now) h)
     (rw (c .before .before .before .product .ensures) at (c .before .before .put3 .ensures))
 
 pub mul-spec : {M : Type 1} → statement M

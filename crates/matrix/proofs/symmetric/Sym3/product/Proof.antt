@@ -5,13 +5,9 @@ use Rattle.matrix.specs.Arithmetic.{symProductOf}
 use Rattle.matrix.proofs.symmetric.Sym3.product.Statement.{statement}
 use Rattle.matrix.proofs.symmetric.Sym3.product.Tie as tie
 
-returns : tie.Need-returns
-unfolding symProductOf
-returns c =
-    rw (stands _ _ _ _ (c .before .before .before .both-finite .ensures) (c .before .before .if1 .taken), ← c .before .times .ensures)
-    (c .judge3 .ensures)
-
 pub product-spec : {M : Type 1} → statement M
 product-spec = tie.close (tie.spec
-    (λ c. search needs) (λ c. search needs) (λ c κs. search needs) (λ c κs. search needs) (λ c κs. search needs) (λ c κs. search needs) returns
-    (λ c. unfold symProductOf in rw (refuses _ _ _ _ (c .before .before .both-finite .ensures) (c .before .if1 .left)) (c .refuse3 .ensures)))
+    (λ c. search needs) (λ c. search needs) (λ c κs. search needs) (λ c κs. search needs) (λ c κs. search needs) (λ c κs. search needs)
+    (λ c. unfold symProductOf in
+    rw (stands _ (c .before .before .before .both-finite .ensures) (c .before .before .if1 .taken), c .judge3 .ensures, c .before .times .ensures))
+    (λ c. unfold symProductOf in rw (refuses _ (c .before .before .both-finite .ensures) (c .before .if1 .left)) (c .refuse3 .ensures)))
