@@ -25,7 +25,6 @@ static const char *const words[] = {
     "an input number is not finite",
     "a pivot is not above zero",
     "a number of the answer is not finite",
-    "a row or a column is outside",
 };
 
 enum { CODES = sizeof words / sizeof words[0] };

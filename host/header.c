@@ -233,13 +233,31 @@ static int kind_bytes(void)
     return end(&known) + end(&unknown);
 }
 
-/* A call of the other library, so that the program has both. */
+/* ---- the other library, so that the program has both: the factor over an old one, which is lent */
+
+struct factored {
+    double matrix[3];
+    uint8_t code, pivot;
+    double factor[3];
+};
+
+static const struct factored factored[] = {
+    {{4, 2, 5}, ZANIKORY_CODE_DONE, 0, {2, 1, 2}},
+    {{-1, 1, 1}, ZANIKORY_CODE_PIVOT, 1, {7, 8, 9}},
+    {{1, 1, 1}, ZANIKORY_CODE_PIVOT, 2, {1, 1, 9}},
+};
+
 static int both_libraries(void)
 {
-    struct tried tried = begin("the root of 4, from the library on doubles");
-    volatile double four = 4;
-    tried.calls++;
-    tried.wrong += zanikory_root(four) != 2;
+    struct tried tried = begin("factors 2x2 over 7, 8, 9, from the library on doubles");
+    for (size_t i = 0; i < sizeof factored / sizeof factored[0]; i++) {
+        struct factored given = factored[i];
+        double l[3] = {7, 8, 9};
+        uint8_t pivot = 0xFF;
+        uint8_t code = zanikory_cholesky_2x2_factor(l, 3, given.matrix, 3, &pivot);
+        tried.calls++;
+        tried.wrong += code != given.code || pivot != given.pivot || memcmp(l, given.factor, sizeof l) != 0;
+    }
     return end(&tried);
 }
 

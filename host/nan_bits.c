@@ -5,7 +5,7 @@
 #include <stdio.h>
 #include <string.h>
 
-#include "zanikory.h"
+#include "shown.h"
 
 #define THE_NAN 0x7FF8000000000000u
 #define ONE 0x3FF0000000000000u

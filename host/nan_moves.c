@@ -7,6 +7,7 @@
 #include <stdio.h>
 #include <string.h>
 
+#include "shown.h"
 #include "zanikory.h"
 
 #define SIGN 0x8000000000000000u
@@ -137,10 +138,10 @@ static int end(const struct kind *kind)
     return (int)kind->wrong;
 }
 
-/* ---- moves, all in one shape: i and j are columns, or a row and a column; x is what is written */
+/* ---- moves, all in one shape: i and j are columns, or a row and a column; x is what is written. What is
+   moved stands at `lent`; what is only read stands at `a`, and the number goes to `lent` */
 
-typedef uint8_t entry(size_t i, size_t j, double x, const double *a, size_t a_length, double *out,
-                      size_t out_length);
+typedef uint8_t entry(size_t i, size_t j, double x, const double *a, double *lent);
 
 /* The code and the words that a move gives. */
 typedef uint8_t mover(size_t n, size_t i, size_t j, uint64_t x, const uint64_t *a, uint64_t *out);
@@ -153,30 +154,29 @@ struct move {
     size_t firsts, seconds; /* how many values of i and j are tried: the last is outside */
 };
 
-#define ENTRY(name, arguments)                                                                       \
-    static uint8_t name(size_t i, size_t j, double x, const double *a, size_t a_length, double *out, \
-                        size_t out_length)                                                           \
-    {                                                                                                \
-        (void)i, (void)j, (void)x;                                                                   \
-        return zanikory_##name arguments;                                                            \
+#define ENTRY(name, arguments)                                                                  \
+    static uint8_t name(size_t i, size_t j, double x, const double *a, double *lent)            \
+    {                                                                                           \
+        (void)i, (void)j, (void)x, (void)a;                                                     \
+        return zanikory_##name arguments;                                                       \
     }
 
-ENTRY(mat2_transpose, (a, a_length, out, out_length))
-ENTRY(mat3_transpose, (a, a_length, out, out_length))
-ENTRY(mat2_swap_columns, (i, j, a, a_length, out, out_length))
-ENTRY(mat3_swap_columns, (i, j, a, a_length, out, out_length))
-ENTRY(mat2_flip_column, (i, a, a_length, out, out_length))
-ENTRY(mat3_flip_column, (i, a, a_length, out, out_length))
-ENTRY(mat2_index_mut, (i, j, x, a, a_length, out, out_length))
-ENTRY(mat3_index_mut, (i, j, x, a, a_length, out, out_length))
-ENTRY(mat2_set_identity, (a, a_length, out, out_length))
-ENTRY(mat3_set_identity, (a, a_length, out, out_length))
-ENTRY(mat2_index, (i, j, a, a_length, out, out_length))
-ENTRY(mat3_index, (i, j, a, a_length, out, out_length))
-ENTRY(sym2_index, (i, j, a, a_length, out, out_length))
-ENTRY(sym3_index, (i, j, a, a_length, out, out_length))
-ENTRY(sym2_index_mut, (i, j, x, a, a_length, out, out_length))
-ENTRY(sym3_index_mut, (i, j, x, a, a_length, out, out_length))
+ENTRY(mat2_transpose, (lent))
+ENTRY(mat3_transpose, (lent))
+ENTRY(mat2_swap_columns, (i, j, lent))
+ENTRY(mat3_swap_columns, (i, j, lent))
+ENTRY(mat2_flip_column, (i, lent))
+ENTRY(mat3_flip_column, (i, lent))
+ENTRY(mat2_index_mut, (i, j, x, lent))
+ENTRY(mat3_index_mut, (i, j, x, lent))
+ENTRY(mat2_set_identity, (lent))
+ENTRY(mat3_set_identity, (lent))
+ENTRY(mat2_index, (i, j, a, lent))
+ENTRY(mat3_index, (i, j, a, lent))
+ENTRY(sym2_index, (i, j, a, lent))
+ENTRY(sym3_index, (i, j, a, lent))
+ENTRY(sym2_index_mut, (i, j, x, lent))
+ENTRY(sym3_index_mut, (i, j, x, lent))
 
 static void all(size_t length, const uint64_t *a, uint64_t *out)
 {
@@ -285,31 +285,23 @@ static int on_move(const struct move *move)
 {
     struct kind inside = begin(move->name, "done");
     struct kind outside = begin(move->name, "8: the words as they were, +0 for one");
-    struct kind lengths = begin(move->name, "1 or 2: out as it was");
     for (size_t k = 0; k < inputs(move->numbers); k++) {
         struct numbers a = input(move->numbers, k);
         for (size_t at = 0; at < move->firsts * move->seconds; at++) {
             size_t i = at % move->firsts, j = at / move->firsts;
             uint64_t x = patterns[(k + at) % PATTERNS];
             lend();
+            if (move->places == move->numbers)
+                memcpy(room + 1, a.doubles, move->numbers * sizeof *room);
             uint8_t expected = move->moved(move->n, i, j, x, a.words, left + 1);
-            uint8_t code =
-                move->call(i, j, double_of(x), a.doubles, move->numbers, room + 1, move->places);
+            uint8_t code = move->call(i, j, double_of(x), a.doubles, room + 1);
             judge(expected ? &outside : &inside, code, expected);
         }
-        for (size_t a_length = 0; a_length < move->numbers + 2; a_length++)
-            for (size_t out_length = 0; out_length < move->places + 2; out_length++) {
-                if (a_length == move->numbers && out_length == move->places)
-                    continue;
-                lend();
-                uint8_t code = move->call(0, 0, 1, a.doubles, a_length, room + 1, out_length);
-                judge(&lengths, code, out_length != move->places ? 2 : 1);
-            }
     }
     int wrong = end(&inside);
     if (outside.tried)
         wrong += end(&outside);
-    return wrong + end(&lengths);
+    return wrong;
 }
 
 /* ---- a matrix and a vector to a lent vector: products and solutions */
@@ -388,71 +380,74 @@ static int on_kernel(const struct kernel *kernel)
     return end(&done) + end(&lengths) + end(&given) + end(&made);
 }
 
-/* ---- the factor over an old one, which is NaNs */
+/* ---- the factor over an old one, which is lent and has NaNs */
 
-typedef uint8_t factor(const double *l, size_t l_length, const double *a, size_t a_length, double *out,
-                       size_t out_length);
+typedef uint8_t factor(double *l, size_t l_length, const double *a, size_t a_length, uint8_t *pivot);
 
 struct stop {
     const char *what;
     size_t numbers;
     double matrix[6];
-    uint8_t code;
+    uint8_t code, pivot;
     size_t writes;
     double written[6];
 };
 
 /* Size 2 has no 7: where the second number is too large, the pivot behind it is -infinity. */
 static const struct stop stops[] = {
-    {"done: nothing of the old factor", 3, {4, 2, 5}, 0, 3, {2, 1, 2}},
-    {"6 at pivot 1: the old factor", 3, {-0.0, 1, 1}, 6, 0, {0}},
-    {"6 at pivot 2: its last place", 3, {1, 1, 1}, 6, 2, {1, 1}},
-    {"done: nothing of the old factor", 6, {4, 2, 5, 2, 3, 6}, 0, 6, {2, 1, 2, 1, 1, 2}},
-    {"6 at pivot 1: the old factor", 6, {-1, 1, 1, 1, 1, 1}, 6, 0, {0}},
-    {"6 at pivot 2: its last four places", 6, {1, 1, 1, 1, 1, 1}, 6, 2, {1, 1}},
-    {"6 at pivot 3: its last place", 6, {1, 0, 1, 1, 0, 1}, 6, 5, {1, 0, 1, 1, 0}},
-    {"7: the old factor", 6, {TINY, 0, 1, 0x1p1023, 0, 1}, 7, 0, {0}},
+    {"done: nothing of the old factor", 3, {4, 2, 5}, 0, 0, 3, {2, 1, 2}},
+    {"6 at pivot 1: the old factor", 3, {-0.0, 1, 1}, 6, 1, 0, {0}},
+    {"6 at pivot 2: its last place", 3, {1, 1, 1}, 6, 2, 2, {1, 1}},
+    {"done: nothing of the old factor", 6, {4, 2, 5, 2, 3, 6}, 0, 0, 6, {2, 1, 2, 1, 1, 2}},
+    {"6 at pivot 1: the old factor", 6, {-1, 1, 1, 1, 1, 1}, 6, 1, 0, {0}},
+    {"6 at pivot 2: its last four places", 6, {1, 1, 1, 1, 1, 1}, 6, 2, 2, {1, 1}},
+    {"6 at pivot 3: its last place", 6, {1, 0, 1, 1, 0, 1}, 6, 3, 5, {1, 0, 1, 1, 0}},
+    {"7: the old factor", 6, {TINY, 0, 1, 0x1p1023, 0, 1}, 7, 0, 0, {0}},
 };
 
-/* Each input as the old factor. */
-static int on_stop(const char *name, factor *call, const struct stop *stop)
+/* The call over an old factor of m numbers, of which l_length are lent. It must write the first numbers of
+   the stop, and the pivot's number over a byte that is none. */
+static void over(struct kind *kind, factor *call, size_t m, const struct numbers *old, size_t l_length,
+                 const double *a, size_t a_length, const struct stop *stop)
 {
-    struct kind kind = begin(name, stop->what);
-    size_t m = stop->numbers;
-    for (size_t k = 0; k < inputs(m); k++) {
-        struct numbers l = input(m, k);
-        lend();
-        leave(l.doubles, m);
-        leave(stop->written, stop->writes);
-        judge(&kind, call(l.doubles, m, stop->matrix, m, room + 1, m), stop->code);
+    uint8_t pivot = 0xFF;
+    lend();
+    leave(old->doubles, m);
+    memcpy(room, left, sizeof room);
+    leave(stop->written, stop->writes);
+    judge(kind, call(room + 1, l_length, a, a_length, &pivot), stop->code);
+    if (pivot != stop->pivot) {
+        printf("%s: pivot %d, expected %d\n", kind->function, pivot, stop->pivot);
+        kind->wrong++;
     }
-    return end(&kind);
 }
 
 static int on_factor(const char *name, factor *call, size_t m)
 {
+    static const struct stop not_finite = {.code = 5}, input_length = {.code = 1}, output_length = {.code = 2};
     struct kind given = begin(name, "5: the old factor");
-    struct kind lengths = begin(name, "1 or 2: out as it was");
+    struct kind lengths = begin(name, "1 or 2: the old factor");
     int wrong = 0;
-    for (size_t i = 0; i < sizeof stops / sizeof stops[0]; i++)
-        if (stops[i].numbers == m)
-            wrong += on_stop(name, call, &stops[i]);
+    for (size_t i = 0; i < sizeof stops / sizeof stops[0]; i++) {
+        struct kind kind = begin(name, stops[i].what);
+        for (size_t k = 0; k < inputs(m) && stops[i].numbers == m; k++) {
+            struct numbers l = input(m, k);
+            over(&kind, call, m, &l, m, stops[i].matrix, m, &stops[i]);
+        }
+        wrong += kind.tried ? end(&kind) : 0;
+    }
     for (size_t k = 0; k < inputs(m); k++) {
         struct numbers l = input(m, k);
         for (size_t at = 0; at < NOT_FINITE * m; at++) {
             struct numbers a = input(m, at);
-            lend();
-            leave(l.doubles, m);
-            judge(&given, call(l.doubles, m, a.doubles, m, room + 1, m), 5);
+            over(&given, call, m, &l, m, a.doubles, m, &not_finite);
         }
         /* each length one less, right or one more */
-        for (size_t at = 0; at < 27; at++) {
-            size_t l_length = m - 1 + at % 3, a_length = m - 1 + at / 3 % 3, out_length = m - 1 + at / 9;
-            if (l_length == m && a_length == m && out_length == m)
-                continue;
-            lend();
-            uint8_t code = call(l.doubles, l_length, l.doubles, a_length, room + 1, out_length);
-            judge(&lengths, code, out_length != m ? 2 : 1);
+        for (size_t at = 0; at < 9; at++) {
+            size_t l_length = m - 1 + at % 3, a_length = m - 1 + at / 3;
+            const struct stop *stop = l_length != m ? &output_length : &input_length;
+            if (l_length != m || a_length != m)
+                over(&lengths, call, m, &l, l_length, l.doubles, a_length, stop);
         }
     }
     return wrong + end(&given) + end(&lengths);

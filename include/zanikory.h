@@ -20,7 +20,7 @@ extern "C" {
 
 /* ---- codes */
 
-/* What an entry answers. With more than one reason to refuse, the order is 2, 1, 3, 4, 5, 8, 6, 7. The
+/* What an entry answers. With more than one reason to refuse, the order is 2, 1, 3, 4, 5, 6, 7. The
    worked matrix of a 3x3 call counts among the numbers of its answer, though no record has it. */
 enum zanikory_code {
     ZANIKORY_CODE_DONE = 0,              /* none of the others */
@@ -30,8 +30,7 @@ enum zanikory_code {
     ZANIKORY_CODE_RESERVED = 4,          /* a reserved byte or an unused number is not all zero bits */
     ZANIKORY_CODE_INPUT_NOT_FINITE = 5,  /* a used input number is NaN or infinite */
     ZANIKORY_CODE_PIVOT = 6,             /* a pivot is not above zero */
-    ZANIKORY_CODE_ANSWER_NOT_FINITE = 7, /* a number of the answer is NaN or infinite */
-    ZANIKORY_CODE_OUTSIDE = 8            /* a row or a column is not below the size */
+    ZANIKORY_CODE_ANSWER_NOT_FINITE = 7  /* a number of the answer is NaN or infinite */
 };
 
 /* ---- records
@@ -111,72 +110,18 @@ enum zanikory_kind {
 uint8_t zanikory_answer_record(const uint8_t *request, size_t request_length, uint8_t *answer,
                                size_t answer_length);
 
-/* ---- floats */
-
-/* The root of x: the double nearest to the exact one, ties to even. A zero keeps its sign and
-   +infinity stays. A number below zero, -infinity or a NaN gives NaN, whose bits are
-   7FF8000000000000: the promise says NaN, and host/nan_bits.c shows the bits. */
-double zanikory_root(double x);
-
-/* 1 or -1 by the sign of x, at zeros and infinities too. A NaN gives NaN, whose bits are
-   7FF8000000000000: the promise says NaN, and host/nan_bits.c shows the bits. */
-double zanikory_signum(double x);
-
-/* The root, from the bits of a double to the bits of its root. The promise fixes every bit: for a
-   number below zero, -infinity or any NaN they are 7FF8000000000000. */
-uint64_t zanikory_root_bits(uint64_t b);
-
-/* The signum, from bits to bits. The promise fixes every bit: those of 1 (3FF0000000000000) or of
-   -1 (BFF0000000000000), and 7FF8000000000000 for any NaN. */
-uint64_t zanikory_signum_bits(uint64_t b);
-
-/* ---- matrices in arrays of doubles
+/* ---- kernels on arrays of doubles
 
    An array is a pointer that is not null, and a length in doubles. It is valid for its length, and
-   the one that is written overlaps no other; nothing of that can be checked here. The answer is a
-   code, and never 3 or 4. 2 comes before 1, and 1 before the others. Whatever is refused with 1 or 2
-   writes nothing.
+   what is written overlaps nothing else; nothing of that can be checked here. The answer is a code,
+   and never 3 or 4. 2 comes before 1, and 1 before the others. Whatever is refused with 1 or 2 writes
+   nothing to an array.
 
    A square matrix of size n has n * n numbers, column by column. A symmetric one has its upper
-   triangle, column by column: A11, A12, A22, and A13, A23, A33. Rows and columns count from 0.
+   triangle, column by column: A11, A12, A22, and A13, A23, A33.
 
-   Numbers that are moved, or that stay, keep every bit, those of a NaN too: the promise says NaN, and
-   host/nan_moves.c shows the bits. */
-
-/* A moved matrix from a into out, both of n * n. With 8 out takes the matrix as it was. To flip a
-   column is to change the sign bit of each of its numbers; index_mut writes x at a row and a column. */
-uint8_t zanikory_mat2_transpose(const double *a, size_t a_length, double *out, size_t out_length);
-uint8_t zanikory_mat3_transpose(const double *a, size_t a_length, double *out, size_t out_length);
-uint8_t zanikory_mat2_swap_columns(size_t i, size_t j, const double *a, size_t a_length, double *out,
-                                   size_t out_length);
-uint8_t zanikory_mat3_swap_columns(size_t i, size_t j, const double *a, size_t a_length, double *out,
-                                   size_t out_length);
-uint8_t zanikory_mat2_flip_column(size_t i, const double *a, size_t a_length, double *out,
-                                  size_t out_length);
-uint8_t zanikory_mat3_flip_column(size_t i, const double *a, size_t a_length, double *out,
-                                  size_t out_length);
-uint8_t zanikory_mat2_index_mut(size_t row, size_t column, double x, const double *a, size_t a_length,
-                                double *out, size_t out_length);
-uint8_t zanikory_mat3_index_mut(size_t row, size_t column, double x, const double *a, size_t a_length,
-                                double *out, size_t out_length);
-uint8_t zanikory_mat2_set_identity(const double *a, size_t a_length, double *out, size_t out_length);
-uint8_t zanikory_mat3_set_identity(const double *a, size_t a_length, double *out, size_t out_length);
-
-/* The same of a symmetric matrix, in arrays of 3 or 6. */
-uint8_t zanikory_sym2_index_mut(size_t row, size_t column, double x, const double *a, size_t a_length,
-                                double *out, size_t out_length);
-uint8_t zanikory_sym3_index_mut(size_t row, size_t column, double x, const double *a, size_t a_length,
-                                double *out, size_t out_length);
-
-/* The number at a row and a column, into an out of one place, which takes +0 with 8. */
-uint8_t zanikory_mat2_index(size_t row, size_t column, const double *a, size_t a_length, double *out,
-                            size_t out_length);
-uint8_t zanikory_mat3_index(size_t row, size_t column, const double *a, size_t a_length, double *out,
-                            size_t out_length);
-uint8_t zanikory_sym2_index(size_t row, size_t column, const double *a, size_t a_length, double *out,
-                            size_t out_length);
-uint8_t zanikory_sym3_index(size_t row, size_t column, const double *a, size_t a_length, double *out,
-                            size_t out_length);
+   Numbers that stay keep every bit, those of a NaN too: the promise says NaN, and host/nan_moves.c
+   shows the bits. */
 
 /* y = A x, where y and x have as many places as the matrix has rows. What is refused leaves y. */
 uint8_t zanikory_mat2_mul(const double *a, size_t a_length, double *y, size_t y_length,
@@ -188,13 +133,14 @@ uint8_t zanikory_mat3_mul(const double *a, size_t a_length, double *y, size_t y_
 uint8_t zanikory_sym3_mul(const double *h, size_t h_length, double *y, size_t y_length,
                           const double *x, size_t x_length);
 
-/* The Cholesky factor L of A = L L', packed as A is, over an old factor l, into out, all of 3 or of 6.
-   With 6 the places that were written before the refused pivot are new and the rest are the old
-   factor's; with 5 and 7 all are. */
-uint8_t zanikory_cholesky_2x2_factor(const double *l, size_t l_length, const double *a,
-                                     size_t a_length, double *out, size_t out_length);
-uint8_t zanikory_cholesky_3x3_factor(const double *l, size_t l_length, const double *a,
-                                     size_t a_length, double *out, size_t out_length);
+/* The Cholesky factor L of A = L L', packed as A is, where an old factor stands; l and a have 3 or 6
+   places. With 0 all of l is new. With 6 the places before the refused pivot are new and the rest are
+   the old factor's; with 5 and 7 all are. One byte is written at pivot: the number of the refused pivot
+   (1, 2 or 3) with 6, and else 0. It is not null. */
+uint8_t zanikory_cholesky_2x2_factor(double *l, size_t l_length, const double *a, size_t a_length,
+                                     uint8_t *pivot);
+uint8_t zanikory_cholesky_3x3_factor(double *l, size_t l_length, const double *a, size_t a_length,
+                                     uint8_t *pivot);
 
 /* The solution x of L L' x = b. x and b may be longer: the first 2 or 3 places count. What is refused
    leaves x. */

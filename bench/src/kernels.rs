@@ -12,8 +12,8 @@ const MATRICES: usize = 4096;
 /// Takes the numbers of a matrix, an array and its length, and writes those of the answer.
 type Spectrum = unsafe extern "C" fn(*const f64, usize, *mut f64, usize) -> u8;
 
-/// Takes an old factor and a matrix, and writes the factor.
-type Factor = unsafe extern "C" fn(*const f64, usize, *const f64, usize, *mut f64, usize) -> u8;
+/// Takes an old factor, which it replaces, and a matrix, and writes the number of a refused pivot.
+type Factor = unsafe extern "C" fn(*mut f64, usize, *const f64, usize, *mut u8) -> u8;
 
 /// Takes a factor, writes the solution, and takes the right side.
 type Solve = unsafe extern "C" fn(*const f64, usize, *mut f64, usize, *const f64, usize) -> u8;
@@ -22,20 +22,18 @@ extern "C" {
     fn zanikory_eigen_3x3(a: *const f64, m: usize, out: *mut f64, n: usize) -> u8;
     fn zanikory_svd_3x3(a: *const f64, m: usize, out: *mut f64, n: usize) -> u8;
     fn zanikory_cholesky_2x2_factor(
-        l: *const f64,
+        l: *mut f64,
         l_length: usize,
         a: *const f64,
         a_length: usize,
-        out: *mut f64,
-        out_length: usize,
+        pivot: *mut u8,
     ) -> u8;
     fn zanikory_cholesky_3x3_factor(
-        l: *const f64,
+        l: *mut f64,
         l_length: usize,
         a: *const f64,
         a_length: usize,
-        out: *mut f64,
-        out_length: usize,
+        pivot: *mut u8,
     ) -> u8;
     fn zanikory_cholesky_2x2_solve(
         l: *const f64,
@@ -89,35 +87,35 @@ unsafe extern "C" fn crate_svd_3x3(a: *const f64, _: usize, out: *mut f64, _: us
 
 #[inline(never)]
 unsafe extern "C" fn crate_factor_2x2(
-    l: *const f64,
+    l: *mut f64,
     _: usize,
     a: *const f64,
     _: usize,
-    out: *mut f64,
-    _: usize,
+    pivot: *mut u8,
 ) -> u8 {
-    // SAFETY: the caller lends arrays of 3, and the one that is written overlaps no other.
-    let (l, a, out) = unsafe { (&*l.cast(), &*a.cast(), &mut *out.cast::<[f64; 3]>()) };
-    let mut l = DenseMatrixSym2 { data: *l };
-    let done = l.cholesky_2x2_explicit_factor(&DenseMatrixSym2 { data: *a });
-    *out = l.data;
+    // SAFETY: the caller lends arrays of 3 and a byte, and what is written overlaps nothing else.
+    let (l, a, pivot) = unsafe { (&mut *l.cast::<[f64; 3]>(), &*a.cast(), &mut *pivot) };
+    let mut factor = DenseMatrixSym2 { data: *l };
+    let done = factor.cholesky_2x2_explicit_factor(&DenseMatrixSym2 { data: *a });
+    *l = factor.data;
+    *pivot = 0;
     u8::from(done.is_err())
 }
 
 #[inline(never)]
 unsafe extern "C" fn crate_factor_3x3(
-    l: *const f64,
+    l: *mut f64,
     _: usize,
     a: *const f64,
     _: usize,
-    out: *mut f64,
-    _: usize,
+    pivot: *mut u8,
 ) -> u8 {
-    // SAFETY: the caller lends arrays of 6, and the one that is written overlaps no other.
-    let (l, a, out) = unsafe { (&*l.cast(), &*a.cast(), &mut *out.cast::<[f64; 6]>()) };
-    let mut l = DenseMatrixSym3 { data: *l };
-    let done = l.cholesky_3x3_explicit_factor(&DenseMatrixSym3 { data: *a });
-    *out = l.data;
+    // SAFETY: the caller lends arrays of 6 and a byte, and what is written overlaps nothing else.
+    let (l, a, pivot) = unsafe { (&mut *l.cast::<[f64; 6]>(), &*a.cast(), &mut *pivot) };
+    let mut factor = DenseMatrixSym3 { data: *l };
+    let done = factor.cholesky_3x3_explicit_factor(&DenseMatrixSym3 { data: *a });
+    *l = factor.data;
+    *pivot = 0;
     u8::from(done.is_err())
 }
 
@@ -174,12 +172,14 @@ fn of_spectrum<const N: usize, const M: usize>(
     move |a, out| unsafe { kernel(a.as_ptr(), N, out.as_mut_ptr(), M) }
 }
 
-/// The old factor is zeros.
+/// The old factor is zeros, as `answers` makes what is written.
 fn of_factor<const N: usize>(kernel: Factor) -> impl Fn(&[f64; N], &mut [f64; N]) -> u8 {
     let kernel = black_box(kernel);
-    let old = [0.0; N];
-    // SAFETY: both kernels take any numbers in two arrays of N, and write N.
-    move |a, out| unsafe { kernel(old.as_ptr(), N, a.as_ptr(), N, out.as_mut_ptr(), N) }
+    move |a, out| {
+        let mut pivot = 0;
+        // SAFETY: both kernels take any numbers in two arrays of N, and write N and a byte.
+        unsafe { kernel(out.as_mut_ptr(), N, a.as_ptr(), N, &mut pivot) }
+    }
 }
 
 /// The factor comes first of the N numbers, and then the right side.

@@ -666,19 +666,29 @@ pub fn place_of(p: usize, q: usize) -> usize {
 }
 
 fn applied_input(random: &mut Random, _: u64, words: &mut [u64], hits: &mut Hits) {
+    let branch = if fill_rotation(random, words) {
+        Applied::Chosen
+    } else {
+        Applied::Any
+    };
+    hits.hit(branch as usize);
+}
+
+/// Fills in the words with any floats, and says whether the rotation is then the one of the pair.
+pub fn fill_rotation(random: &mut Random, words: &mut [u64]) -> bool {
     let (number, p, q) = a_pair(random);
     words[0] = number;
     any_words(random, &mut words[1..]);
     if random.bits(1) == 0 {
-        return hits.hit(Applied::Any as usize);
+        return false;
     }
-    hits.hit(Applied::Chosen as usize);
     let a = DenseMatrixSym3 {
         data: numbers(&words[4..]),
     };
     let (apq, app, aqq) = get_rotation_elements(&a, place_of(p, q));
     let (c, s, t) = compute_jacobi_rotation(apq, app, aqq);
     put(&mut words[1..], &[c, s, t]);
+    true
 }
 
 fn applied(input: &[u64], out: &mut [u64], hits: &mut Hits) {

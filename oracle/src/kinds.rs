@@ -3,8 +3,10 @@
 use crate::algebra::DenseMatrixSymN;
 use crate::cholesky::{self, Size, Sym};
 use crate::codes::{ANSWER_NOT_FINITE, DONE};
+use crate::eigen;
 use crate::subject::Subject;
-use crate::{eigen, subjects, svd};
+use crate::subjects;
+use crate::svd;
 
 pub struct Kind {
     pub name: &'static str,
@@ -56,8 +58,7 @@ impl Kind {
     }
 
     pub fn subject(&self) -> &'static Subject {
-        let found = subjects().find(|s| s.name == self.subject);
-        found.expect("a subject of that name")
+        subjects::named(self.subject).expect("a subject of that name")
     }
 
     /// So many of the subject's words come before the record's numbers: an old factor, which a record does not have.

@@ -4,10 +4,10 @@ use crate::eigen::isotropic;
 use crate::float::{HIDDEN, INFINITY, NAN, SIGN};
 use crate::kinds::Kind;
 use crate::numbers::power_of_two;
+use crate::places::{of_its_subject, unused_place, used_place, with_words};
 use crate::random::Random;
 use crate::reached::reaching;
 use crate::record::Request;
-use crate::requests::{of_its_subject, unused_place, used_place, with_words};
 use crate::rotations::LIMIT;
 
 /// Each branch of a kind's definition is reached at least so many times.

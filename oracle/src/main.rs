@@ -14,6 +14,7 @@ mod matrix;
 mod modules;
 mod nights;
 mod numbers;
+mod places;
 mod random;
 mod reached;
 mod record;
@@ -24,22 +25,12 @@ mod search;
 mod shapes;
 mod stream;
 mod subject;
+mod subjects;
 mod svd;
 mod table;
 
 use std::io::{self, BufWriter};
 use std::process::ExitCode;
-use subject::Subject;
-
-/// A further subject is a file and a line here.
-const SUBJECTS: &[&[Subject]] = &[
-    float::SUBJECTS,
-    root::SUBJECTS,
-    matrix::SUBJECTS,
-    cholesky::SUBJECTS,
-    eigen::SUBJECTS,
-    svd::SUBJECTS,
-];
 
 fn main() -> ExitCode {
     let words: Vec<String> = std::env::args().skip(1).collect();
@@ -60,7 +51,7 @@ fn main() -> ExitCode {
 }
 
 fn usage() {
-    let names: Vec<&str> = subjects().map(|s| s.name).collect();
+    let names: Vec<&str> = subjects::all().map(|s| s.name).collect();
     eprintln!("usage: oracle SUBJECT COUNT SEED [PROBE-COMMAND...]");
     eprintln!("       oracle search-eigen COUNT SEED");
     eprintln!("       oracle requests COUNT SEED > REQUESTS");
@@ -68,12 +59,7 @@ fn usage() {
     eprintln!("       oracle answers < REQUESTS > ANSWERS");
     eprintln!("       oracle branches < REQUESTS");
     eprintln!("       oracle table REQUESTS ANSWERS");
-    eprintln!("       oracle rotations < ITEMS > LINES");
     eprintln!("subjects: {}", names.join(" "));
-}
-
-fn subjects() -> impl Iterator<Item = &'static Subject> {
-    SUBJECTS.iter().copied().flatten()
 }
 
 /// Does what the words ask for, where that is of records, and says whether all is well.
@@ -86,9 +72,6 @@ fn with_records(words: &[&str]) -> Option<io::Result<bool>> {
         ["golden"] => write_requests(requests::GOLDEN.0, requests::GOLDEN.1).map(|()| true),
         ["branches"] => reached::show(&mut io::stdin().lock()),
         ["table", requests, answers] => table::show(requests, answers),
-        ["rotations"] => {
-            in_place::answer(&mut io::stdin().lock(), &mut io::stdout().lock()).map(|()| true)
-        }
         _ => return None,
     })
 }
@@ -112,7 +95,7 @@ fn with_subject(words: &[&str]) -> Option<io::Result<bool>> {
         search::eigen(count, seed);
         return Some(Ok(true));
     }
-    let subject = subjects().find(|s| s.name == *name)?;
+    let subject = subjects::named(name)?;
     Some(if probe.is_empty() {
         Ok(driver::survey(subject, count, seed))
     } else {

@@ -3,9 +3,9 @@
 use crate::float::SIGN;
 use crate::kinds::Kind;
 use crate::numbers::number;
+use crate::places::of_its_subject;
 use crate::random::Random;
 use crate::record::{answer, Request, CODE_AT, COUNT_AT, NUMBERS_AT, REQUEST_BYTES};
-use crate::requests::of_its_subject;
 use crate::stream::read_record;
 use crate::subject::Hits;
 use std::io::{self, Read};

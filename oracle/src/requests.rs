@@ -1,13 +1,13 @@
 //! Requests for a run, by a seed alone: first the listed ones, then any number at random, and last a part of one.
 
 use crate::float::{subnormal, SIGN};
-use crate::kinds::{Kind, KINDS};
+use crate::kinds::Kind;
 use crate::listed::listed;
 use crate::nights;
 use crate::numbers::{finite, not_finite};
+use crate::places::{of_its_subject, unused_place, used_place};
 use crate::random::Random;
 use crate::record::{Request, REQUEST_BYTES};
-use crate::subject::Hits;
 use std::io::{self, Write};
 
 /// The golden list: so many requests of this seed.
@@ -66,29 +66,6 @@ fn of_a_night(random: &mut Random, kind: u8) -> Request {
     }
 }
 
-/// The input with this number of the kind's subject; beyond its listed ones it is one at random.
-pub fn of_its_subject(random: &mut Random, kind: u8, number: u64) -> Request {
-    let of = &KINDS[usize::from(kind) - 1];
-    let subject = of.subject();
-    let mut words = [0; 40];
-    let words = &mut words[..subject.words_in];
-    let mut uncounted = Hits(vec![0; subject.branches.len()]);
-    (subject.input)(random, number, words, &mut uncounted);
-    with_words(kind, &words[of.before()..])
-}
-
-/// A request with these patterns in the places that its kind uses.
-pub fn with_words(kind: u8, words: &[u64]) -> Request {
-    let mut request = Request {
-        kind,
-        ..Request::default()
-    };
-    let (nine, three) = words.split_at(KINDS[usize::from(kind) - 1].nine);
-    request.nine[..nine.len()].copy_from_slice(nine);
-    request.three[..three.len()].copy_from_slice(three);
-    request
-}
-
 fn bad_kind(random: &mut Random) -> u8 {
     match random.below(4) {
         0 => 0,
@@ -111,24 +88,6 @@ fn set_unused(random: &mut Random, request: &mut Request) {
             return;
         }
     }
-}
-
-/// A place that the kind does not use, counted through the nine and then the three.
-pub fn unused_place<'a>(of: &Kind, request: &'a mut Request, number: usize) -> &'a mut u64 {
-    let (nine, three) = (&mut request.nine[of.nine..], &mut request.three[of.three..]);
-    nine.iter_mut()
-        .chain(three)
-        .nth(number)
-        .expect("an unused place")
-}
-
-/// A place that the kind uses, counted in the same way.
-pub fn used_place<'a>(of: &Kind, request: &'a mut Request, number: usize) -> &'a mut u64 {
-    let (nine, three) = (&mut request.nine[..of.nine], &mut request.three[..of.three]);
-    nine.iter_mut()
-        .chain(three)
-        .nth(number)
-        .expect("a used place")
 }
 
 /// A pattern with a bit set: also of a zero, and of what is no number.

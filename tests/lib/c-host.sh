@@ -78,21 +78,23 @@ run() { # PROGRAM WORDS..
     if [ "$compiler" = cc ]; then "$@"; else run_proved "$@"; fi
 }
 
-# host_test NAME CRATE: host/NAME.c, with the crate's library, must find every answer right at -O0 and at
-# -O2, and print the lines of host/NAME.stdout.
+# host_test NAME CRATE..: host/NAME.c, with the crates' libraries, must find every answer right at -O0 and
+# at -O2, and print the lines of host/NAME.stdout.
 host_test() {
-    make_libraries "$2"
+    host_name=$1
+    shift
+    make_libraries "$@"
     choose_compiler
     mkdir -p "$room"
     for level in 0 2; do
-        program=$room/$1-O$level
-        build "host/$1.c" "$level" "$program"
-        if ! run "$program" >"$program.stdout" || ! cmp "$program.stdout" "host/$1.stdout"; then
+        program=$room/$host_name-O$level
+        build "host/$host_name.c" "$level" "$program"
+        if ! run "$program" >"$program.stdout" || ! cmp "$program.stdout" "host/$host_name.stdout"; then
             cat "$program.stdout"
-            echo "${0##*/} FAILED: at -O$level of the host an answer is wrong, or a line is not that of host/$1.stdout"
+            echo "${0##*/} FAILED: at -O$level of the host an answer is wrong, or a line is not that of host/$host_name.stdout"
             exit 1
         fi
     done
-    cat "$room/$1-O2.stdout"
+    cat "$room/$host_name-O2.stdout"
     echo "${0##*/} passed: the same lines at -O0 and at -O2 of the host (compiled by $compiler)"
 }

@@ -1,6 +1,6 @@
 -- What an entry on slices of doubles answers: 2 where the lent one has a wrong length, else 1 where an input has; both leave the lent one as it was.
 -- Definitions only.
-use mathlib.Core.List.{List, [], _∷_}
+use mathlib.Core.List.{List}
 use Prim.Native.Nat.{ℕ}
 use lib.Dec.{leb, eqb}
 use lib.ListN.{length}
@@ -19,10 +19,6 @@ intoFirst n out r = pick (leb n (length out)) r (refused 2 out)
 -- an input must have n numbers
 abbrev pub given : ℕ → List Float → List Float → Answer (List Float) → Answer (List Float)
 given n a out r = pick (eqb (length a) n) r (refused 1 out)
-
--- one number, as the list of it
-abbrev pub alone : Answer Float → Answer (List Float)
-alone x = record { code = x .code; value = x .value ∷ [] }
 
 -- out takes the numbers where the code is 0
 abbrev pub whenDone : Answer (List Float) → List Float → Answer (List Float)

@@ -23,8 +23,8 @@ ghost use mathlib.Core.Path.{_≡_};
 ghost use lib.ListN.{length};
 ghost use Rattle.float.specs.Width.{F};
 ghost use Rattle.matrix.specs.Answer.{Outcome};
-ghost use Rattle.exports.specs.Kernels.{squareMulOf, packedMulOf, factor2Into, factor3Into, solve2Into, solve3Into, eigenNumbers, eigen3Into, svdNumbers};
-ghost use Rattle.exports.specs.Kernels.{svd3Into};
+ghost use Rattle.exports.specs.Kernels.{squareMulOf, packedMulOf, Factored, factor2Into, factor3Into, solve2Into, solve3Into};
+ghost use Rattle.exports.specs.Kernels.{eigenNumbers, eigen3Into, svdNumbers, svd3Into};
 
 #[no_mangle]
 pub extern "C" fn zanikory_mat2_mul(a: &[Real], y: &mut [Real], x: &[Real]) -> u8
@@ -65,16 +65,14 @@ pub extern "C" fn zanikory_sym3_mul(h: &[Real], y: &mut [Real], x: &[Real]) -> u
     sym3_of(h).mul(y, x)
 }
 
-// The old factor l is replaced as far as the kernel writes.
+// L is the old factor at entry, and is replaced as far as the kernel writes.
 #[no_mangle]
-pub extern "C" fn zanikory_cholesky_2x2_factor(l: &[Real], a: &[Real], out: &mut [Real]) -> u8
-    ensures { λ r. ⌜ Outcome (factor2Into F (now (l .entry)) (now (a .entry)) (now (out .entry))) r (now (out .exit)) ⌝ }
+pub extern "C" fn zanikory_cholesky_2x2_factor(l: &mut [Real], a: &[Real], pivot: &mut u8) -> u8
+    ensures { λ r. ⌜ Factored (factor2Into F (now (l .entry)) (now (a .entry))) r (now (l .exit)) (now (pivot .exit)) ⌝ }
 {
-    if out.len() != 3 {
-        return OUTPUT_LENGTH;
-    }
+    *pivot = 0;
     if l.len() != 3 {
-        return INPUT_LENGTH;
+        return OUTPUT_LENGTH;
     }
     if a.len() != 3 {
         return INPUT_LENGTH;
@@ -82,20 +80,19 @@ pub extern "C" fn zanikory_cholesky_2x2_factor(l: &[Real], a: &[Real], out: &mut
     let r = cholesky_2x2_explicit_factor(sym2_of(l), sym2_of(a));
     let m = r.factor;
     let d = m.data;
-    put(out, &d);
+    put(l, &d);
+    *pivot = r.pivot;
     r.code
 }
 
-// The old factor l is replaced as far as the kernel writes.
+// L is the old factor at entry, and is replaced as far as the kernel writes.
 #[no_mangle]
-pub extern "C" fn zanikory_cholesky_3x3_factor(l: &[Real], a: &[Real], out: &mut [Real]) -> u8
-    ensures { λ r. ⌜ Outcome (factor3Into F (now (l .entry)) (now (a .entry)) (now (out .entry))) r (now (out .exit)) ⌝ }
+pub extern "C" fn zanikory_cholesky_3x3_factor(l: &mut [Real], a: &[Real], pivot: &mut u8) -> u8
+    ensures { λ r. ⌜ Factored (factor3Into F (now (l .entry)) (now (a .entry))) r (now (l .exit)) (now (pivot .exit)) ⌝ }
 {
-    if out.len() != 6 {
-        return OUTPUT_LENGTH;
-    }
+    *pivot = 0;
     if l.len() != 6 {
-        return INPUT_LENGTH;
+        return OUTPUT_LENGTH;
     }
     if a.len() != 6 {
         return INPUT_LENGTH;
@@ -103,7 +100,8 @@ pub extern "C" fn zanikory_cholesky_3x3_factor(l: &[Real], a: &[Real], out: &mut
     let r = cholesky_3x3_explicit_factor(sym3_of(l), sym3_of(a));
     let m = r.factor;
     let d = m.data;
-    put(out, &d);
+    put(l, &d);
+    *pivot = r.pivot;
     r.code
 }
 

@@ -10,6 +10,7 @@ use crate::numbers::put3;
 use crate::numbers::sym2;
 use crate::numbers::sym3;
 use crate::words::begin;
+use crate::words::coded;
 use crate::words::counted;
 use crate::words::marked;
 use crate::words::word;
@@ -105,6 +106,13 @@ fn sort3_with_columns(words: [u64; 40]) -> [u64; 64] {
     put_mat3(put3([0; 64], 0, values), 3, columns)
 }
 
+// Code, and the matrix as it is left.
+fn rotate(words: [u64; 40]) -> [u64; 64] {
+    let r = lent::rotate(sym3(words, 4), pair(words), rotation(words));
+    let left = r.matrix;
+    put_sym3(coded(r.code), 1, left)
+}
+
 pub(crate) fn eigen(op: u64, words: [u64; 40]) -> [u64; 64] {
     match op {
         48 => eigen_jacobi(words),
@@ -134,6 +142,7 @@ pub(crate) fn eigen(op: u64, words: [u64; 40]) -> [u64; 64] {
             0,
             order::sort3(number(words, 0), number(words, 1), number(words, 2)),
         ),
-        _ => sort3_with_columns(words),
+        58 => sort3_with_columns(words),
+        _ => rotate(words),
     }
 }

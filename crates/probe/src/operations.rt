@@ -12,7 +12,7 @@ pub(crate) fn known(op: u64) -> bool {
         0 => 0 < n && n < 9,
         1 => n < 13,
         2 => n < 7,
-        3 => n < 11,
+        3 => n < 12,
         4 => n < 9,
         _ => false,
     }

@@ -1,10 +1,9 @@
--- The lengths passed, out takes the factor that is handed back.
-use Rattle.float.proofs.Words.{_≡_, refl, arith, length, eq-eqb, ne-eqb, needs}
+-- The lengths passed, L takes the factor that is handed back, and the pivot's place its number.
+use Rattle.float.proofs.Words.{_≡_, refl, ap, _∙_, arith, length, eq-eqb, ne-eqb, needs}
 use Rattle.float.specs.Width.{F}
 use Rattle.cholesky.specs.Factor.{factor3, factor3Of}
 use Rattle.cholesky.specs.declared.cholesky3x3.Factor3.{Factor3}
 use Rattle.exports.specs.Kernels.{factor3Into}
-use Rattle.exports.proofs.Handing.{handed}
 use Rattle.exports.proofs.kernels.zanikory_cholesky_3x3_factor.Statement.{statement}
 use Rattle.exports.proofs.kernels.zanikory_cholesky_3x3_factor.Tie as tie
 
@@ -13,20 +12,22 @@ put-requires c κs =
     let l : length (c .before .before .before .before .cholesky-3x3-explicit-factor .result .factor .«data») ≡ 6 = search needs in
     omega arith
 
-returns-4 : tie.Need-returns-4
+returns-3 : tie.Need-returns-3
 unfolding factor3Into
-returns-4 c =
+returns-3 c =
     let m = c .before .before .before .before .before .before .before in
-    let t = m .before .before .before in
-    let a = t .before .before .before .before .before .before .args in
+    let t = m .before .before .before .before in
+    let a = t .before .before .before .before .args in
     let e : m .cholesky-3x3-explicit-factor .result ≡ factor3 (factor3Of F (a .l .now) (a .a .now)) =
     rw (m .before .before .sym3-of .ensures, m .before .sym3-of2 .ensures) at (m .cholesky-3x3-explicit-factor .ensures) in
-    rw (eq-eqb _ 6 (t .before .before .if1 .left), eq-eqb _ 6 (t .before .if2 .left), eq-eqb _ 6 (t .if3 .left))
-    (handed (λ (r : Factor3). r .code) (λ (r : Factor3). r .factor .«data») (c .before .before .put .ensures) e)
+    rw (eq-eqb _ 6 (t .before .if1 .left), eq-eqb _ 6 (t .if2 .left)) (
+      ap (λ (r : Factor3). r .code) e,
+      c .before .before .put .ensures ∙ ap (λ (r : Factor3). r .factor .«data») e,
+      ap (λ (r : Factor3). r .pivot) e,
+    )
 
 pub zanikory-cholesky-3x3-factor-spec : {M : Type 1} → statement M
 zanikory-cholesky-3x3-factor-spec = tie.close (tie.spec
-    (λ c. unfold factor3Into in rw (ne-eqb _ 6 (c .if1 .taken)) (refl, refl))
-    (λ c. unfold factor3Into in rw (eq-eqb _ 6 (c .before .if1 .left), ne-eqb _ 6 (c .if2 .taken)) (refl, refl))
-    (λ c. unfold factor3Into in rw (eq-eqb _ 6 (c .before .before .if1 .left), eq-eqb _ 6 (c .before .if2 .left), ne-eqb _ 6 (c .if3 .taken)) (refl, refl))
-    (λ c κs. search needs) (λ c κs. search needs) (λ c κs. search needs) (λ c. search needs) put-requires (λ c. search needs) returns-4)
+    (λ c. unfold factor3Into in rw (ne-eqb _ 6 (c .if1 .taken)) (refl, refl, refl))
+    (λ c. unfold factor3Into in rw (eq-eqb _ 6 (c .before .if1 .left), ne-eqb _ 6 (c .if2 .taken)) (refl, refl, refl))
+    (λ c κs. search needs) (λ c κs. search needs) (λ c κs. search needs) (λ c. search needs) put-requires (λ c. search needs) returns-3)
