@@ -1,8 +1,8 @@
--- Byte i is read at or behind where it goes, so it is still the one of the beginning.
-use Rattle.float.proofs.Words.{_≡_, refl, subst, _-_, _≤_, arith, length, take, drop, length-set}
-use Rattle.answers.proofs.Moving.{moved, rest-kept}
-use Rattle.answers.proofs.keep_rest.Statement.{statement}
-use Rattle.answers.proofs.keep_rest.Tie as tie
+-- Byte i is read at or behind where it goes, so it is still the one of the beginning; what lies behind is not touched.
+use Rattle.float.proofs.Words.{_≡_, refl, sym, _∙_, _-_, _≤_, arith, length, take, drop, length-set, take-append-drop}
+use Rattle.stdio.proofs.Moving.{moved, rest-kept}
+use Rattle.stdio.proofs.move_down.Statement.{statement}
+use Rattle.stdio.proofs.move_down.Tie as tie
 
 abbrev Inv-loop : tie.InvT-loop
 Inv-loop buf₀ from n i₀ buf i = (i ≤ n) × (length buf ≡ length buf₀) × (take i buf ≡ take i (drop from buf₀)) × (drop i buf ≡ drop i buf₀)
@@ -25,17 +25,9 @@ returns c =
     let k = c .before in
     let a = k .before .args in
     let e : k .loop .i ≡ a .n = omega arith in
-    subst (λ n. take n (k .loop .buf) ≡ take n (drop (a .from) (a .buf .now))) e (k .loop .inv .2)
+    sym (take-append-drop (k .loop .i) (k .loop .buf)) ∙ (rw (k .loop .inv .2, k .loop .inv .3, e))
 
-pub keep-rest-spec : {M : Type 1} → statement M
-keep-rest-spec = tie.close (tie.spec
-    Inv-loop μ-loop
-    (λ c. (omega arith, refl, refl, refl))
-    (λ c. omega arith)
-    (λ c. omega arith)
-    (λ c. omega arith)
-    (λ c. omega arith)
-    (λ c. omega arith)
-    loop-again
-    (λ c. omega arith)
-    returns)
+pub move-down-spec : {M : Type 1} → statement M
+move-down-spec = tie.close (tie.spec
+    Inv-loop μ-loop (λ c. (omega arith, refl, refl, refl)) (λ c. omega arith) (λ c. omega arith) (λ c. omega arith) (λ c. omega arith) (λ c. omega arith)
+    loop-again (λ c. omega arith) returns)
