@@ -1,10 +1,10 @@
 -- What is served: the answers are there whether the write went well or not, and what is kept is the rest behind the whole requests. What
 -- is served in a round are the bytes that were kept and those that came behind them.
-use Rattle.float.proofs.Words.{_≡_, refl, sym, ap, _∙_, subst, subst⁻¹, false≢true, true, false, List, [], _++_, append-nil, ℕ, _+_, _-_, _*_, _/_, _≤_, _<_}
+use Rattle.float.proofs.Words.{_≡_, refl, ap, _∙_, subst, subst⁻¹, false≢true, true, false, List, [], _++_, append-nil, ℕ, _+_, _-_, _*_, _/_, _≤_, _<_}
 use Rattle.float.proofs.Words.{arith, length, take, drop, length-take}
 use lib.Seq.{take-add}
 use Rattle.float.specs.Width.{F}
-use Rattle.stdio.specs.Kept.{wholeOf, restOf, keptOf}
+use Rattle.stdio.specs.Kept.{wholeOf, keptOf}
 use Rattle.stdio.proofs.Rest.{rest-kept}
 use Rattle.record.specs.Layout.{requestSize, answerSize}
 use Rattle.record.specs.Stream.{answersOf}

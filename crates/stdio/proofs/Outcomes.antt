@@ -5,8 +5,7 @@ use lib.Signed.{nonNeg, ltZ}
 use mir.Syntax.{w64}
 use mir.Val.{SFits, Fits}
 use Rattle.float.specs.Choice.{pick}
-use Rattle.stdio.specs.declared.Outcome.{Outcome}
-use Rattle.stdio.specs.declared.Outcome.the-variants.{Bytes, Nothing, Interrupted, Failed}
+use Rattle.stdio.specs.declared.Outcome.the-variants.{Bytes, Interrupted, Failed}
 use Rattle.stdio.specs.Calls.{outcomeOf}
 
 pub counts : (z : ℤ) → SFits w64 z → ltZ (pos 0) z ≡ true → T (nonNeg z) × Fits w64 (natAbs z)

@@ -13,10 +13,11 @@ all-answered : (total : ℕ) (buf out : List ℕ) → length buf ≡ 65536 → l
     → Answered F (take total buf) (streamOf F (take total buf) out .answers) (total / requestSize F)
 unfolding streamOf
 all-answered total buf out h k l =
+    let n = total / requestSize F in
     let size : length (take total buf) ≡ total = simp length-take (omega arith) in
-    let n : wholeRecords F (length (take total buf)) (length out) ≡ total / requestSize F = rw (size, k) (omega arith) in (
+    let whole : wholeRecords F (length (take total buf)) (length out) ≡ n = rw (size, k) (omega arith) in (
       sym (ap (λ (x : ℕ). x / requestSize F) size),
-      rw n (take-at (answersOf F (total / requestSize F) (take total buf)) _ _ (answers-size F (total / requestSize F) (take total buf) (rw size (omega arith)))),
+      rw whole (take-at (answersOf F n (take total buf)) _ _ (answers-size F n (take total buf) (rw size (omega arith)))),
     )
 
 returns : tie.Need-returns

@@ -2,7 +2,7 @@
 use Rattle.float.proofs.Words.{_≡_, sym, ap, _∙_, false, ℤ, pos}
 use lib.Signed.{ltZ}
 use mir.Syntax.{w64}
-use mir.Val.{SFits, toZ, ofZ}
+use mir.Val.{toZ, ofZ}
 use mir.ValLaws.{toZ-ofZ, toZ-fits, ofZ-fits}
 use Rattle.float.specs.Choice.{pick}
 use Rattle.stdio.specs.declared.Outcome.the-variants.{Interrupted, Failed}

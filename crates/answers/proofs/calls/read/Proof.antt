@@ -1,5 +1,5 @@
 -- The read is lent only what lies behind the kept bytes, so it leaves them.
-use Rattle.float.proofs.Words.{_≡_, subst⁻¹, _-_, arith, length, take, length-take-le, take-at, needs}
+use Rattle.float.proofs.Words.{subst⁻¹, _-_, arith, take, length-take-le, take-at, needs}
 use Rattle.float.specs.Width.{F}
 use Rattle.stdio.specs.declared.Outcome.{Outcome}
 use Rattle.stdio.specs.Calls.{AtMost}
