@@ -1,6 +1,6 @@
 -- Byte i is read at or behind where it goes, so it is still the one of the beginning; what lies behind is not touched.
 use Rattle.float.proofs.Words.{_≡_, refl, sym, _∙_, _-_, _≤_, arith, length, take, drop, length-set, take-append-drop}
-use Rattle.stdio.proofs.Moving.{moved, rest-kept}
+use Rattle.stdio.proofs.Moving.{moved, behind-kept}
 use Rattle.stdio.proofs.move_down.Statement.{statement}
 use Rattle.stdio.proofs.move_down.Tie as tie
 
@@ -17,7 +17,7 @@ loop-again c =
       omega arith,
       simp length-set (omega arith),
       moved (k .loop .buf) (a .buf .now) (k .loop .i) (k .loop .inv .3) (a .from) (omega arith) (k .loop .inv .1) (k .loop .inv .2),
-      rest-kept (k .loop .buf) (a .buf .now) (k .loop .i) (k .loop .inv .3) _,
+      behind-kept (k .loop .buf) (a .buf .now) (k .loop .i) (k .loop .inv .3) _,
     )
 
 returns : tie.Need-returns Inv-loop μ-loop
