@@ -19,5 +19,5 @@ module _ (b start : List ℕ) (i : ℕ) (kept : drop i b ≡ drop i start) where
       ∙ sym (take-suc (drop from start) i 0 (simp length-drop (omega arith)))
       ∙ ap (λ (k : ℕ). take k (drop from start)) (sym (add-one i))
 
-  pub rest-kept : (x : ℕ) → drop (i + 1) (set b i x) ≡ drop (i + 1) start
-  rest-kept x = drop-set-lt (i + 1) b i x (omega arith) ∙ sym (drop-drop 1 i b) ∙ ap (drop 1) kept ∙ drop-drop 1 i start
+  pub behind-kept : (x : ℕ) → drop (i + 1) (set b i x) ≡ drop (i + 1) start
+  behind-kept x = drop-set-lt (i + 1) b i x (omega arith) ∙ sym (drop-drop 1 i b) ∙ ap (drop 1) kept ∙ drop-drop 1 i start

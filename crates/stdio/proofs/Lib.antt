@@ -1,0 +1,6 @@
+pub mod Left
+pub mod Moving
+pub mod Outcomes
+pub mod Rest
+pub mod Writings
+pub mod Unique
