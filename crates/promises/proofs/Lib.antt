@@ -3,6 +3,7 @@ pub mod Kernels
 pub mod Decided
 pub mod Codes
 pub mod Signs
+pub mod Columns
 pub mod Wiring
 pub mod Vouched
 pub mod Pivots

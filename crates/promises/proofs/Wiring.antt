@@ -27,6 +27,7 @@ use Rattle.record.proofs.Streams.{stepped}
 use Rattle.record.proofs.answer.zanikory_answer_record.Reads as answer-record
 use Rattle.promises.specs.Wiring.{flippedNumber, flippedNumbers, flipped, Bytes, ReversedRecords}
 use Rattle.promises.proofs.Signs.{number-flipped}
+use Rattle.promises.proofs.Columns.{bytes-exchanged}
 
 -- ---- one number
 
@@ -217,7 +218,15 @@ module _ (f : Format) (a0 a1 a2 a3 a5 a6 a7 : ℕ) (body : List ℕ) (size : len
   unfolding recordOf
   reversed-request =
       let h = judged-alike in
-      record { codes = h .codes; counts = h .counts; marks = h .marks; values = h .values; columns = h .columns }
+      let same = same-length f 6 body (omega arith) in
+      record {
+        codes = h .codes;
+        counts = h .counts;
+        marks = h .marks;
+        values = h .values;
+        columns = h .columns;
+        bytes = (λ e d. bytes-exchanged f (request body) (request other) (omega arith) (omega arith) (h .columns e d));
+      }
 
 -- ---- any request of kind 2
 

@@ -2,12 +2,12 @@
 -- Definitions only.
 use mathlib.Core.Path.{_≡_}
 use mathlib.Core.List.{List, [], _∷_, _++_}
-use Prim.Native.Nat.{ℕ, zero, suc, _+_, _-_, _%_, _<_}
+use Prim.Native.Nat.{ℕ, zero, suc, _+_, _-_, _*_, _%_, _<_}
 use lib.ListN.{getD, take, drop}
 use lib.Ieee.{Format}
 use Rattle.eigen.specs.Reversed.{AllDiffer, ValuesExchanged, ColumnsExchanged}
-use Rattle.wire.specs.Bytes.{numberBytes}
-use Rattle.record.specs.Layout.{nineAt, codeAt, countAt, markAt}
+use Rattle.wire.specs.Bytes.{numberBytes, placeOf, part}
+use Rattle.record.specs.Layout.{nineAt, codeAt, countAt, markAt, leftAt}
 use Rattle.record.specs.Request.{judgedOf}
 use Rattle.record.specs.Answer.{answeredOf}
 
@@ -40,10 +40,19 @@ Bytes s = (i : ℕ) → getD s i 0 < 256
 abbrev pub SameByte : Format → ℕ → List ℕ → List ℕ → Type 0
 SameByte f k s t = getD (answeredOf f s) k 0 ≡ getD (answeredOf f t) k 0
 
--- Code, count and mark are the same. With code 0 the values are exchanged and negated; and if no two of them are equal, the columns are exchanged, bit for bit.
+-- the bytes of column c of the nine numbers left
+abbrev pub columnBytes : Format → ℕ → List ℕ → List ℕ
+columnBytes f c s = part (placeOf f (leftAt f) (3 * c)) (numberBytes f * 3) (answeredOf f s)
+
+-- the bytes of the columns of one are those of the other in the opposite order: of doubles 32..56 of one are 80..104 of the other
+abbrev pub BytesExchanged : Format → List ℕ → List ℕ → Type 0
+BytesExchanged f s t = (columnBytes f 0 s ≡ columnBytes f 2 t) × (columnBytes f 1 s ≡ columnBytes f 1 t) × (columnBytes f 2 s ≡ columnBytes f 0 t)
+
+-- Code, count and mark are the same. With code 0 the values are exchanged and negated; and if no two of them are equal, the columns are exchanged, byte for byte.
 pub record ReversedRecords (f : Format) (s t : List ℕ) : Type 0 where
   pub codes : SameByte f codeAt s t
   pub counts : SameByte f countAt s t
   pub marks : SameByte f markAt s t
   pub values : judgedOf f s .code ≡ 0 → ValuesExchanged (judgedOf f s .values) (judgedOf f t .values)
   pub columns : judgedOf f s .code ≡ 0 → AllDiffer (judgedOf f s .values) → ColumnsExchanged (judgedOf f s .left) (judgedOf f t .left)
+  pub bytes : judgedOf f s .code ≡ 0 → AllDiffer (judgedOf f s .values) → BytesExchanged f s t

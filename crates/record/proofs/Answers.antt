@@ -15,7 +15,7 @@ use Rattle.record.specs.Stream.{requestOf, answersOf}
 
 -- ---- a request of the right size
 
-judged-sized : (f : Format) (s : List ℕ) → Sized (judgedOf f s)
+pub judged-sized : (f : Format) (s : List ℕ) → Sized (judgedOf f s)
 unfolding judgedOf
 judged-sized f s =
     chosen Sized (eqb (formOf f s) 0) _ _
