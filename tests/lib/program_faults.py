@@ -23,7 +23,7 @@ LIMIT = 60  # seconds, after which a program that hangs is ended
 SEED = 6
 NINE_USED = {1: 3, 2: 6, 3: 4, 4: 9, 5: 3, 6: 6, 7: 3, 8: 6}
 THREE_USED = {7: 2, 8: 3}
-TALLY = re.compile(r'(code \d  .+  \d+\n){9}')
+TALLY = re.compile(r'(code \d  .+  \d+\n){8}')
 
 KIND, NAME, PRELOAD = sys.argv[1:4]
 COMMAND = sys.argv[4:]
