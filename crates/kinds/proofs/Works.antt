@@ -1,6 +1,6 @@
 -- The answer of every kind: its sizes, only a code and a pivot's number where the code is not 0, and no code 5 over finite numbers.
 -- Each kernel owes this of its answer.
-use Rattle.float.proofs.Words.{_≡_, refl, sym, ap, _∙_, subst⁻¹, true, ℕ, arith, eqb, length, Format, ne-eqb}
+use Rattle.float.proofs.Words.{_≡_, refl, sym, ap, _∙_, subst⁻¹, Bool, true, false, ℕ, arith, eqb, length, Format, ne-eqb}
 use Rattle.float.specs.Sign.{allFinite}
 use Rattle.float.proofs.Choice.{chosen, by-eqb}
 use Rattle.float.proofs.Finite.{both-true, append-passes}
@@ -74,25 +74,25 @@ work-clear f a =
 
 -- ---- byte 6 is 0, but for a pivot's number and for the rotations of a kind that counts them
 
-abbrev pub Uncounted : Kind → Worked → Type 0
-Uncounted k w = (w .code ≡ 6 → ⊥) → ((w .code ≡ 0) × (k .counts ≡ true) → ⊥) → w .count ≡ 0
+abbrev pub Uncounted : Bool → Worked → Type 0
+Uncounted counts w = (w .code ≡ 6 → ⊥) → ((w .code ≡ 0) × (counts ≡ true) → ⊥) → w .count ≡ 0
 
-factor-uncounted : (f : Format) (s : ℕ) (k : Kind) (r : FactorAnswer) → ((r .code ≡ 6 → ⊥) → r .pivot ≡ 0) → Uncounted k (fromFactor f s r)
+factor-uncounted : (f : Format) (s : ℕ) (r : FactorAnswer) → ((r .code ≡ 6 → ⊥) → r .pivot ≡ 0) → Uncounted false (fromFactor f s r)
 unfolding fromFactor
-factor-uncounted f s k r h = by-eqb (Uncounted k) (r .code) 0 _ _ (λ _ _ _. refl) (λ _ n _. h n)
+factor-uncounted f s r h = by-eqb (Uncounted false) (r .code) 0 _ _ (λ _ _ _. refl) (λ _ n _. h n)
 
-pub work-uncounted : (f : Format) (a : Asked) → Uncounted (kindNumbered (a .kind)) (workOf f a)
+pub work-uncounted : (f : Format) (a : Asked) → Uncounted (kindNumbered (a .kind) .counts) (workOf f a)
 unfolding answeredBy
 work-uncounted f a =
     let nine = a .nine in
     let three = a .three in
-    each-kind (λ (k : Kind). Uncounted k (answeredBy f (k .kernel) a)) (λ _ _. refl)
+    each-kind (λ (k : Kind). Uncounted (k .counts) (answeredBy f (k .kernel) a)) (λ _ _. refl)
     (λ _ _. refl)
     (λ _ c. ap (λ (r : Eigen3). r .made .count) (eigen3-owed f (firstOf 6 nine) refl .clear (λ e. c (e, refl))))
     (λ _ _. refl)
     (λ _ c. ap (λ (r : Svd3). r .made .count) (svd3-owed f (firstOf 9 nine) refl .clear (λ e. c (e, refl))))
-    (factor-uncounted f 3 _ _ (factor2-unstopped f (zeros f 3) (firstOf 3 nine)))
-    (factor-uncounted f 6 _ _ (factor3-unstopped f (zeros f 6) (firstOf 6 nine)))
+    (factor-uncounted f 3 _ (factor2-unstopped f (zeros f 3) (firstOf 3 nine)))
+    (factor-uncounted f 6 _ (factor3-unstopped f (zeros f 6) (firstOf 6 nine)))
     (λ n _. solved2-unstopped f (firstOf 3 nine) (firstOf 2 three) n)
     (λ n _. solved3-unstopped f (firstOf 6 nine) (firstOf 3 three) n)
     (a .kind)

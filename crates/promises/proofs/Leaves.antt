@@ -53,10 +53,10 @@ module _ (f : Format) (s : List ℕ) where
       (chosen Sized _ 6 _ ((λ e. omega arith), (λ e. omega arith))
       (chosen Sized _ 0 7 ((λ e. omega arith), (λ e. omega arith)) ((λ e. omega arith), (λ e. omega arith)))))))
 
-  judged-uncounted : Uncounted (kindNumbered (kindOf s)) (judgedOf f s)
+  judged-uncounted : Uncounted (kindNumbered (kindOf s) .counts) (judgedOf f s)
   unfolding judgedOf
   judged-uncounted =
-      let P : Worked → Type 0 = Uncounted (kindNumbered (kindOf s)) in
+      let P : Worked → Type 0 = Uncounted (kindNumbered (kindOf s) .counts) in
       chosen P (eqb (formOf f s) 0) (pick (usedFinite (askedOf f s)) (workOf f (askedOf f s)) (refusedKind f 5 0)) (refusedKind f (formOf f s) 0)
       (chosen P (usedFinite (askedOf f s)) (workOf f (askedOf f s)) (refusedKind f 5 0) (work-uncounted f (askedOf f s)) (λ _ _. refl)) (λ _ _. refl)
 
