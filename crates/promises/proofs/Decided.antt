@@ -35,7 +35,7 @@ Numbered [] = Unit {0}
 Numbered (k ∷ ks) = (eqb (k .number) 0 ≡ false) × Numbered ks
 
 listed-not : (ks : List Kind) (n : ℕ) → Numbered ks → eqb (rowOf n ks .number) 0 ≡ true → NoneOf ks n
-listed-not [] n h e = tt
+listed-not [] n h = λ _. tt
 listed-not (k ∷ ks) n h =
     by-eqb (λ (r : Kind). eqb (r .number) 0 ≡ true → (n ≡ k .number → ⊥) × NoneOf ks n) n (k .number) k (rowOf n ks)
     (λ _ e. absurd (false≢true (sym (h .0) ∙ e))) (λ q e. (q, listed-not ks n (h .1) e))

@@ -4,6 +4,7 @@ use Rattle.float.proofs.Words.{replicate, length-append, length-take-le, take-s
 use contract.Lifetimes.{Lfts}
 use Rattle.float.specs.Width.{F}
 use Rattle.float.specs.Choice.{pick}
+use Rattle.float.specs.Sign.{allFinite}
 use Rattle.float.proofs.Choice.{chosen, by-eqb}
 use Rattle.kinds.specs.Table.{kindNumbered, knownKind}
 use Rattle.kinds.specs.Work.{refusedKind, usedFinite, workOf}
@@ -15,8 +16,8 @@ use Rattle.record.specs.Request.{kindOf, askedOf, reservedZero, unusedZero, for
 use Rattle.record.specs.Answer.{recordOf, answeredOf, wrongSizeOf, Step, recordStepOf}
 use Rattle.record.proofs.Answers.{answer-size, code-in-place, refused-unmarked, refused-clear}
 use Rattle.record.proofs.answer.zanikory_answer_record.Reads as answer-record
-use Rattle.cholesky.specs.Pivots.{refusedPivot}
-use Rattle.promises.specs.Conditions.{pivotsOf}
+use Rattle.cholesky.specs.Pivots.{oneAtMostZero, refusedPivot}
+use Rattle.promises.specs.Conditions.{pivotsOf, numbersOf}
 use Rattle.promises.specs.Leaves.{Not, Leaves}
 use Rattle.promises.proofs.Codes.{judged-code}
 use Rattle.promises.proofs.Kernels.{laterCode}
@@ -46,12 +47,13 @@ module _ (f : Format) (s : List ℕ) where
 
   judged-sized : Sized (judgedOf f s .code)
   judged-sized =
+      let k = kindNumbered (kindOf s) .kernel in
       rw (judged-code f s [])
       (chosen Sized (not (knownKind (kindOf s))) 3 _ ((λ e. omega arith), (λ e. omega arith))
       (chosen Sized (not (reservedZero s && unusedZero f (kindNumbered (kindOf s)) s)) 4 _ ((λ e. omega arith), (λ e. omega arith))
       (chosen Sized (not (usedFinite (askedOf f s))) 5 _ ((λ e. omega arith), (λ e. omega arith))
-      (chosen Sized _ 6 _ ((λ e. omega arith), (λ e. omega arith))
-      (chosen Sized _ 0 7 ((λ e. omega arith), (λ e. omega arith)) ((λ e. omega arith), (λ e. omega arith)))))))
+      (chosen Sized (oneAtMostZero f (pivotsOf f k (askedOf f s))) 6 _ ((λ e. omega arith), (λ e. omega arith))
+      (chosen Sized (allFinite (numbersOf f k (askedOf f s))) 0 7 ((λ e. omega arith), (λ e. omega arith)) ((λ e. omega arith), (λ e. omega arith)))))))
 
   judged-uncounted : Uncounted (kindNumbered (kindOf s) .counts) (judgedOf f s)
   unfolding judgedOf
