@@ -7,12 +7,13 @@ use Rattle.float.specs.Sign.{allFinite}
 use Rattle.float.proofs.Choice.{by-eqb}
 use Rattle.float.proofs.Judged.{by-call}
 use Rattle.matrix.specs.Places.{at, zeros}
-use Rattle.matrix.specs.Rows.{on, Gives, NotFinite, NotAbove, pivotRows}
+use Rattle.matrix.specs.Rows.{on, Gives, TooShort, NotFinite, NotAbove, kernelRows, pivotRows}
+use Rattle.matrix.proofs.Calls.{all-codes, first-codes}
 use Rattle.matrix.proofs.Rows.{Decides, first-row, last-row, by-finite}
 use Rattle.cholesky.specs.Factor.{FactorAnswer, refusedFactor, ifWhole, factorOf, steps2Of, steps3Of, factor2Of, factor3Of}
 use Rattle.cholesky.specs.Pivots.{pivots2Of, pivots3Of, oneAtMostZero, refusedPivot, Stops}
-use Rattle.cholesky.specs.Solve.{SolvedAnswer, refusedSolved, withSolution, factorAndSolveOf, solution2Of, solution3Of}
-use Rattle.cholesky.specs.Solve.{factorAndSolve2Of, factorAndSolve3Of}
+use Rattle.cholesky.specs.Solve.{SolvedAnswer, refusedSolved, withSolution, factorAndSolveOf, solution2Of, solution3Of, judgedSolution, solve2Of}
+use Rattle.cholesky.specs.Solve.{solve3Of, factorAndSolve2Of, factorAndSolve3Of}
 use Rattle.cholesky.proofs.Stops.{steps2-stops, steps3-stops}
 use Rattle.cholesky.proofs.Codes.{factor2-code, factor3-code, solved2-code, solved3-code}
 
@@ -61,6 +62,21 @@ module _ (f : Format) (a b : List Float) where
 
   pub solved3-codes : let l = steps3Of f (zeros f 6) a .factor in Gives (pivotRows f (a ++ b) (pivots3Of f a) (l ++ solution3Of f l b)) (factorAndSolve3Of f a b .code)
   solved3-codes = pivot-codes f (a ++ b) (pivots3Of f a) _ (solved3-code f a b)
+
+-- a solution by a factor, on slices of which the first numbers count
+pub solve2-codes : (f : Format) (l b x : List Float)
+    → Gives (on 2 (TooShort x 2) ∷ on 1 (TooShort b 2) ∷ kernelRows (l ++ take 2 b) (solution2Of f l (take 2 b))) (solve2Of f l b x .code)
+unfolding solve2Of
+solve2-codes f l b x =
+    let made = solution2Of f l (take 2 b) in
+    first-codes 2 (judgedSolution f 2 (solution2Of f) l) b x (kernelRows (l ++ take 2 b) made) (all-codes f 2 (l ++ take 2 b) made)
+
+pub solve3-codes : (f : Format) (l b x : List Float)
+    → Gives (on 2 (TooShort x 3) ∷ on 1 (TooShort b 3) ∷ kernelRows (l ++ take 3 b) (solution3Of f l (take 3 b))) (solve3Of f l b x .code)
+unfolding solve3Of
+solve3-codes f l b x =
+    let made = solution3Of f l (take 3 b) in
+    first-codes 3 (judgedSolution f 3 (solution3Of f) l) b x (kernelRows (l ++ take 3 b) made) (all-codes f 3 (l ++ take 3 b) made)
 
 -- ---- without a 6 there is no pivot's number
 

@@ -6,6 +6,7 @@ pub mod Moved
 pub mod Full
 pub mod Settled
 pub mod Owed
+pub mod Rows
 pub mod Reversed
 pub mod Ordered
 pub mod Unique

@@ -2,6 +2,7 @@ pub mod Tables
 pub mod Placing
 pub mod Rows
 pub mod Owed
+pub mod Calls
 pub mod Answered
 pub mod Moves
 pub mod Sums

@@ -1,12 +1,10 @@
 -- The first row that holds gives the number: by going down the rows. A test that decides a row's condition takes its number or goes on.
-use Rattle.float.proofs.Words.{_≡_, refl, sym, ap, _∙_, Bool, true, false, not, _&&_, true≢false, false≢true, List, [], _∷_, _⊎_, inl, inr, ⊎-elim, ℕ, zero, suc}
-use Rattle.float.proofs.Words.{_<_, arith, eqb, length, Float, Format, eqb-true, eqb-false}
+use Rattle.float.proofs.Words.{_≡_, refl, sym, _∙_, Bool, true, false, not, _&&_, true≢false, false≢true, List, [], _∷_, _⊎_, inl, inr, ⊎-elim, ℕ, suc}
+use Rattle.float.proofs.Words.{_<_, arith, eqb, ltb, length, Float, eqb-true, eq-eqb, ltb-true, lt-ltb}
 use Rattle.float.specs.Choice.{pick}
-use Rattle.float.specs.Exactly.{Exactly}
 use Rattle.float.specs.Sign.{finite, allFinite}
-use Rattle.float.proofs.Choice.{by-eqb}
 use Rattle.float.proofs.Finite.{both-true, at-finite}
-use Rattle.matrix.specs.Rows.{Row, on, Gives, WrongLength, NotFinite, kernelRows, pivotRows}
+use Rattle.matrix.specs.Rows.{Row, on, Gives, WrongLength, Outside, NotFinite, kernelRows}
 use Rattle.matrix.specs.Places.{at}
 
 -- ---- a test and its row
@@ -37,12 +35,18 @@ one-number (r ∷ rs) k m g h =
 
 -- ---- the tests of the code decide the conditions
 
+-- a test that tells that X holds
+pub by-not : (t : Bool) (X : Type 0) → (t ≡ true → X) → (X → t ≡ true) → Decides (not t) (X → ⊥)
+by-not true X h k = ((λ q. absurd (false≢true q)), (λ _ w. w (h refl)))
+by-not false X h k = ((λ _ x. false≢true (k x)), (λ q. absurd (true≢false q)))
+
 pub by-length : {A : Type 0} (xs : List A) (n : ℕ) → Decides (not (eqb (length xs) n)) (WrongLength xs n)
-by-length xs n = by (eqb (length xs) n) refl
-  where
-    by : (t : Bool) → eqb (length xs) n ≡ t → Decides (not t) (WrongLength xs n)
-    by true e = ((λ q. absurd (false≢true q)), (λ _ w. w (eqb-true (length xs) n e)))
-    by false e = ((λ _. eqb-false (length xs) n e), (λ q. absurd (true≢false q)))
+by-length xs n = by-not (eqb (length xs) n) (length xs ≡ n) (eqb-true (length xs) n) (eq-eqb (length xs) n)
+
+pub by-inside : (n r c : ℕ) → Decides (not (ltb r n && ltb c n)) (Outside n r c)
+by-inside n r c =
+    by-not (ltb r n && ltb c n) ((r < n) × (c < n)) (λ e. let b = both-true (ltb r n) (ltb c n) e in (ltb-true r n (b .0), ltb-true c n (b .1)))
+    (λ h. rw (lt-ltb r n (h .0), lt-ltb c n (h .1)))
 
 each-finite : (xs : List Float) → ((i : ℕ) → i < length xs → finite (at xs i) ≡ true) → allFinite xs ≡ true
 unfolding allFinite
@@ -50,11 +54,7 @@ each-finite [] h = refl
 each-finite (x ∷ xs) h = rw (h 0 (omega arith), each-finite xs (λ i l. h (suc i) (omega arith)))
 
 pub by-finite : (xs : List Float) → Decides (not (allFinite xs)) (NotFinite xs)
-by-finite xs = by (allFinite xs) refl
-  where
-    by : (t : Bool) → allFinite xs ≡ t → Decides (not t) (NotFinite xs)
-    by true e = ((λ q. absurd (false≢true q)), (λ _ w. w (at-finite xs e)))
-    by false e = ((λ _ h. false≢true (sym e ∙ each-finite xs h)), (λ q. absurd (true≢false q)))
+by-finite xs = by-not (allFinite xs) ((i : ℕ) → i < length xs → finite (at xs i) ≡ true) (at-finite xs) (each-finite xs)
 
 -- ---- a kernel whose code is known by its tests
 

@@ -3,7 +3,7 @@ use mathlib.Core.Path.{_≡_}
 use mathlib.Core.Bool.{true, false}
 use mathlib.Core.List.{List, [], _∷_}
 use mathlib.Core.Logic.{_⊎_}
-use Prim.Native.Nat.{ℕ, _<_}
+use Prim.Native.Nat.{ℕ, _≤_, _<_}
 use lib.ListN.{length}
 use lib.Ieee.{Float, Format, le}
 use Rattle.float.specs.Constants.{zeroF}
@@ -27,6 +27,13 @@ Gives (r ∷ rs) k = (r .Holds × (k ≡ r .number)) ⊎ ((r .Holds → ⊥) × 
 
 abbrev pub WrongLength : {A : Type 0} → List A → ℕ → Type 0
 WrongLength xs n = length xs ≡ n → ⊥
+
+abbrev pub TooShort : {A : Type 0} → List A → ℕ → Type 0
+TooShort xs n = n ≤ length xs → ⊥
+
+-- a row or a column is not below the size
+abbrev pub Outside : ℕ → ℕ → ℕ → Type 0
+Outside n r c = (r < n) × (c < n) → ⊥
 
 -- a number is NaN or infinite
 abbrev pub NotFinite : List Float → Type 0

@@ -6,7 +6,7 @@ use Rattle.float.specs.Sign.{finite, allFinite}
 use Rattle.float.proofs.Choice.{by-eqb}
 use Rattle.float.proofs.Finite.{both-true, at-finite}
 use Rattle.matrix.specs.Places.{at, tabulate}
-use Rattle.matrix.proofs.Rows.{Decides}
+use Rattle.matrix.proofs.Rows.{Decides, by-not}
 use Rattle.matrix.proofs.Tables.{length-tabulate, at-tabulate, first-tabulate, table-finite}
 use Rattle.kinds.specs.Table.{kinds, unknown, rowOf, knownKind, kindNumbered}
 use Rattle.kinds.specs.Work.{usedFinite}
@@ -17,11 +17,6 @@ use Rattle.wire.specs.Bytes.{placeOf, numberAt, allZero, zeroFrom}
 use Rattle.record.specs.Layout.{wayAt, nineAt, threeAt, requestSize}
 use Rattle.record.specs.Request.{kindOf, askedOf, reservedZero, unusedZero}
 use Rattle.promises.specs.Conditions.{NoneOf, Within, Unused, NotZero, FiniteFrom, UsedNotFinite}
-
--- a test that tells that X holds decides that it does not
-pub by-not : (t : Bool) (X : Type 0) → (t ≡ true → X) → (X → t ≡ true) → Decides (not t) (X → ⊥)
-by-not true X h k = ((λ q. absurd (false≢true q)), (λ _ w. w (h refl)))
-by-not false X h k = ((λ _ x. false≢true (k x)), (λ q. absurd (true≢false q)))
 
 -- ---- 3
 

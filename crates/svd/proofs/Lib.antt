@@ -6,5 +6,6 @@ pub mod Moved
 pub mod Sizes
 pub mod Ordered
 pub mod Owed
+pub mod Rows
 pub mod Settled
 pub mod Unique
