@@ -57,10 +57,12 @@ module _ (f : Format) (l a : List Float) where
   factor3-codes = pivot-codes f a (pivots3Of f a) (steps3Of f l a .factor) (factor3-code f l a)
 
 module _ (f : Format) (a b : List Float) where
-  pub solved2-codes : let l = steps2Of f (zeros f 3) a .factor in Gives (pivotRows f (a ++ b) (pivots2Of f a) (l ++ solution2Of f l b)) (factorAndSolve2Of f a b .code)
+  pub solved2-codes : let l = steps2Of f (zeros f 3) a .factor in
+      Gives (pivotRows f (a ++ b) (pivots2Of f a) (l ++ solution2Of f l b)) (factorAndSolve2Of f a b .code)
   solved2-codes = pivot-codes f (a ++ b) (pivots2Of f a) _ (solved2-code f a b)
 
-  pub solved3-codes : let l = steps3Of f (zeros f 6) a .factor in Gives (pivotRows f (a ++ b) (pivots3Of f a) (l ++ solution3Of f l b)) (factorAndSolve3Of f a b .code)
+  pub solved3-codes : let l = steps3Of f (zeros f 6) a .factor in
+      Gives (pivotRows f (a ++ b) (pivots3Of f a) (l ++ solution3Of f l b)) (factorAndSolve3Of f a b .code)
   solved3-codes = pivot-codes f (a ++ b) (pivots3Of f a) _ (solved3-code f a b)
 
 -- a solution by a factor, on slices of which the first numbers count

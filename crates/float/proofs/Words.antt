@@ -15,8 +15,8 @@ pub use native.Mathlib.Omega.{arith}
 pub use native.Mathlib.Numerals.{add-one}
 pub use lib.Dec.{eqb, T, leb, ltb, leb→le, nleb→lt, ltb→lt, nltb→le, lit≤, le→leb, eqb→eq, lt→ltb, lit<, eqb·suc-zero, eqb·zero-suc, isLe, isEq}
 pub use lib.ListN.{length, getD, take, drop, set, length-drop, length-take, length-set, length-append, replicate, replicate-append-replicate, take-append-drop}
-pub use lib.Seq.{take-suc, take-suc-set, getD-drop, getD-take, drop-drop, drop-set-lt, take-all, take-length, drop-cons, drop-length, sets, sets-eq, take-append-seam}
-pub use lib.Seq.{drop-append-add, take-append-add, length-take-le, getD-append-add, take-at, drop-at}
+pub use lib.Seq.{take-suc, take-suc-set, getD-drop, getD-take, drop-drop, drop-set-lt, take-all, take-length, drop-cons, drop-length, sets, sets-eq}
+pub use lib.Seq.{take-append-seam, drop-append-add, take-append-add, length-take-le, getD-append-add, take-at, drop-at}
 pub use lib.IntN.{pos, ℤ, negsuc, negℤ, subℕ, _+ℤ_, _-ℤ_, natAbs}
 pub use lib.Pow.{pow-add, pow-pos, pow-lt, pow-mono, shl-lt}
 pub use lib.Ieee.{Float, Format, nan, inf, fin, binary32, binary64, prec, emax, low, up, down, hid, ones, top, size, minus, below, level, unlike, nanBits, ne}

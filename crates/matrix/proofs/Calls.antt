@@ -1,11 +1,11 @@
 -- The codes of the calls on matrices, by their rows: lengths first, the output's before the input's, then the numbers; 8 where a place is named.
-use Rattle.float.proofs.Words.{_≡_, refl, sym, _∙_, subst, Bool, true, false, _&&_, true≢false, List, [], _∷_, _++_, inl, inr, ℕ, _≤_, _<_, arith, ltb, leb, length}
-use Rattle.float.proofs.Words.{take, Float, Format, le-leb, leb-true, lt-ltb, ltb-true}
+use Rattle.float.proofs.Words.{_≡_, refl, sym, _∙_, subst, Bool, true, false, _&&_, true≢false, List, [], _∷_, _++_, inl, inr, ℕ, _≤_, _<_, arith, ltb, leb}
+use Rattle.float.proofs.Words.{length, take, Float, Format, le-leb, leb-true, lt-ltb, ltb-true}
 use Rattle.float.specs.Choice.{pick}
 use Rattle.float.proofs.Choice.{by-test, by-eqb}
-use Rattle.matrix.specs.Answer.{Answer, done, refusedOne, refusedAll, answerOne, answerAll, putOf, onFirst}
-use Rattle.matrix.specs.Arithmetic.{timesOf, productOf, mulOf, scaledOf, scaledFromOf, symTimesOf, symProductOf, symMulOf, quadOf, quadJudgedOf, quadFormOf}
-use Rattle.matrix.specs.Arithmetic.{normOf, normFroOf}
+use Rattle.matrix.specs.Answer.{Answer, done, refused, refusedOne, refusedAll, answerOne, answerAll, putOf, onFirst}
+use Rattle.matrix.specs.Arithmetic.{timesOf, productOf, mulOf, scaledOf, scaledFromOf, symTimesOf, symProductOf, symMulOf, quadOf, quadJudgedOf}
+use Rattle.matrix.specs.Arithmetic.{quadFormOf, normOf, normFroOf}
 use Rattle.matrix.specs.Indexed.{inside, flipColumnOf}
 use Rattle.matrix.specs.Places.{triangular}
 use Rattle.matrix.specs.Rows.{Row, on, Gives, WrongLength, TooShort, Outside, kernelRows}
@@ -14,7 +14,7 @@ use Rattle.matrix.proofs.Rows.{last-row, by-inside, kernel-codes}
 
 -- ---- a row and a column
 
-inside-code : {A : Type 0} (t u : Bool) (x z : A) → pick t (pick u (done x) (record { code = 8; value = z })) (record { code = 8; value = z }) .code ≡ pick (t && u) 0 8
+inside-code : {A : Type 0} (t u : Bool) (x z : A) → pick t (pick u (done x) (refused 8 z)) (refused 8 z) .code ≡ pick (t && u) 0 8
 inside-code true true x z = refl
 inside-code true false x z = refl
 inside-code false u x z = refl
@@ -61,7 +61,13 @@ mul-codes f n xs x y =
     let P : Answer (List Float) → Type 0 = λ (a : Answer (List Float)). Gives (on 2 (WrongLength y n) ∷ on 1 (WrongLength x n) ∷ rows) (a .code) in
     by-eqb P (length y) n _ _
     (λ e. by-eqb P (length x) n _ _
-    (λ q. inr ((λ w. w e), inr ((λ w. w q), subst (Gives rows) (sym (put-code n (productOf f n xs x) y (omega arith))) (all-codes f n (xs ++ x) (timesOf f n xs x)))))
+    (λ q. inr (
+      (λ w. w e),
+      inr (
+        (λ w. w q),
+        subst (Gives rows) (sym (put-code n (productOf f n xs x) y (omega arith))) (all-codes f n (xs ++ x) (timesOf f n xs x)),
+      ),
+    ))
     (λ q. inr ((λ w. w e), inl (q, refl))))
     (λ e. inl (e, refl))
 
@@ -93,7 +99,8 @@ sym-mul-codes f h x y =
     first-codes 3 (symProductOf f h) x y (kernelRows (h ++ take 3 x) made) (all-codes f 3 (h ++ take 3 x) made)
 
 pub form-codes : (f : Format) (h y x : List Float)
-    → Gives (on 1 (TooShort y 3) ∷ on 1 (TooShort x 3) ∷ kernelRows (h ++ (take 3 y ++ take 3 x)) (quadOf f h (take 3 y) (take 3 x) ∷ [])) (quadFormOf f h y x .code)
+    → Gives (on 1 (TooShort y 3) ∷ on 1 (TooShort x 3) ∷ kernelRows (h ++ (take 3 y ++ take 3 x)) (quadOf f h (take 3 y) (take 3 x) ∷ []))
+    (quadFormOf f h y x .code)
 unfolding quadFormOf quadJudgedOf
 form-codes f h y x =
     let rows : List Row = kernelRows (h ++ (take 3 y ++ take 3 x)) (quadOf f h (take 3 y) (take 3 x) ∷ []) in

@@ -108,7 +108,8 @@ no-room : (f : Format) (s a : List ℕ) → (length a ≡ answerSize f → ⊥) 
 unfolding recordStepOf
 no-room f s a k = rw (ne-eqb _ (answerSize f) k)
 
-answered : (f : Format) (s a : List ℕ) → length a ≡ answerSize f → length s ≡ requestSize f → Leaves f s a (recordStepOf f s a .code) (recordStepOf f s a .answer)
+answered : (f : Format) (s a : List ℕ) → length a ≡ answerSize f → length s ≡ requestSize f
+    → Leaves f s a (recordStepOf f s a .code) (recordStepOf f s a .answer)
 answered f s a room size =
     let e = with-room f s a room size in
     let event-size = length-take-le eventBytes s (omega arith) in
@@ -120,7 +121,8 @@ answered f s a room size =
     (λ k. count ∙ pivot-given f s (sym (ap (λ (t : Step). t .code) e) ∙ k))
     (λ k c. count ∙ judged-uncounted f s (λ q. k (ap (λ (t : Step). t .code) e ∙ q)) (λ q. c (ap (λ (t : Step). t .code) e ∙ q .0, q .1)))
 
-unread : (f : Format) (s a : List ℕ) → length a ≡ answerSize f → (length s ≡ requestSize f → ⊥) → Leaves f s a (recordStepOf f s a .code) (recordStepOf f s a .answer)
+unread : (f : Format) (s a : List ℕ) → length a ≡ answerSize f → (length s ≡ requestSize f → ⊥)
+    → Leaves f s a (recordStepOf f s a .code) (recordStepOf f s a .answer)
 unfolding recordOf
 unread f s a room size =
     let e = wrong-size f s a room size in

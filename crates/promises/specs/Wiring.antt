@@ -48,7 +48,8 @@ columnBytes f c s = part (placeOf f (leftAt f) (3 * c)) (numberBytes f * 3) (ans
 abbrev pub BytesExchanged : Format → List ℕ → List ℕ → Type 0
 BytesExchanged f s t = (columnBytes f 0 s ≡ columnBytes f 2 t) × (columnBytes f 1 s ≡ columnBytes f 1 t) × (columnBytes f 2 s ≡ columnBytes f 0 t)
 
--- Code, count and mark are the same. With code 0 the values are exchanged and negated; and if no two of them are equal, the columns are exchanged, byte for byte.
+-- Code, count and mark are the same. With code 0 the values are exchanged and negated; and if no two of them are equal, the columns are exchanged,
+-- byte for byte.
 pub record ReversedRecords (f : Format) (s t : List ℕ) : Type 0 where
   pub codes : SameByte f codeAt s t
   pub counts : SameByte f countAt s t

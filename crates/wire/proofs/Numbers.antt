@@ -1,7 +1,7 @@
 -- Numbers in bytes, over the format.
-use Rattle.float.proofs.Words.{_≡_, refl, sym, ap, _∙_, not, List, [], _∷_, _++_, append-assoc, ℕ, zero, suc, _+_, _*_, _^_, _≤_, _<_, mul-zero, mul-suc, add-assoc, add-comm}
-use Rattle.float.proofs.Words.{add-one, T, length, getD, take, drop, replicate, length-append, replicate-append-replicate, drop-cons, drop-append-add, take-append-add, sets}
-use Rattle.float.proofs.Words.{arith, Float, nan, Format, binary32, binary64, fits, isNan, top, ofBits, toBits}
+use Rattle.float.proofs.Words.{_≡_, refl, sym, ap, _∙_, not, List, [], _∷_, _++_, append-assoc, ℕ, zero, suc, _+_, _*_, _^_, _≤_, _<_, mul-zero, mul-suc}
+use Rattle.float.proofs.Words.{add-assoc, add-comm, add-one, T, length, getD, take, drop, replicate, length-append, replicate-append-replicate, drop-cons}
+use Rattle.float.proofs.Words.{drop-append-add, take-append-add, sets, arith, Float, nan, Format, binary32, binary64, fits, isNan, top, ofBits, toBits}
 use lib.Ieee.Bits.{ofBits-toBits, toBits-lt, toBits-ofBits}
 use Rattle.float.specs.Constants.{zeroF}
 use Rattle.matrix.specs.Places.{zeros}
@@ -49,7 +49,8 @@ numbers-take f (x ∷ xs) r (suc k) h =
     let l = bytes-length (numberBytes f) (toBits f x) in
     let q : numberBytes f * suc k ≡ length (wordBytes f x) + numberBytes f * k = rw mul-suc (omega arith) in
     rw (q, append-assoc)
-    (take-append-add (wordBytes f x) (numberBytesOf f xs ++ r) (numberBytes f * k) ∙ ap (λ (l : List ℕ). wordBytes f x ++ l) (numbers-take f xs r k (omega arith)))
+    (take-append-add (wordBytes f x) (numberBytesOf f xs ++ r) (numberBytes f * k)
+    ∙ ap (λ (l : List ℕ). wordBytes f x ++ l) (numbers-take f xs r k (omega arith)))
 
 -- numbers placed in a list, up to their end
 pub numbers-front : (f : Format) (l l′ : List ℕ) (xs : List Float) (at n : ℕ) → length xs ≡ n → placeOf f at n ≤ length l
