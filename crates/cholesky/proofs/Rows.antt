@@ -1,6 +1,6 @@
 -- The codes of the Cholesky kernels by their rows: 5 before 6 before 7. The test of the pivots decides whether one is at most zero.
-use Rattle.float.proofs.Words.{_≡_, refl, sym, _∙_, Bool, true, false, _||_, true≢false, false≢true, List, [], _∷_, _++_, ℕ, zero, suc, _<_, arith, length}
-use Rattle.float.proofs.Words.{Float, Format, le}
+use Rattle.float.proofs.Words.{take, _≡_, refl, sym, _∙_, Bool, true, false, _||_, true≢false, false≢true, List, [], _∷_, _++_, ℕ, zero, suc, _<_, arith}
+use Rattle.float.proofs.Words.{length, Float, Format, le}
 use Rattle.float.specs.Choice.{pick}
 use Rattle.float.specs.Constants.{zeroF}
 use Rattle.float.specs.Sign.{allFinite}
