@@ -1,5 +1,5 @@
 -- The constants are what they are named for, in both formats: by computation, and the root of 1/2 by `correct`.
-use Rattle.float.proofs.Words.{_≡_, refl, subst, ℕ, _+_, _-_, _^_, false, T, pos, negsuc, Float, fin, Format, binary32, binary64, prec, low, add, mul}
+use Rattle.float.proofs.Words.{_≡_, refl, subst, _+_, _-_, _^_, false, T, pos, negsuc, Float, fin, Format, binary32, binary64, prec, low, add, mul}
 use Rattle.float.proofs.Words.{fits, ofBits, toBits}
 use lib.Ieee.{ofInt}
 use Rattle.float.specs.Constants.{oneF, twoF, halfF, epsilonF, limitF, halfRootF}

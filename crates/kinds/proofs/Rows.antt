@@ -1,7 +1,7 @@
 -- What holds of each row of the table holds of every kind: a number finds its row, or the row that stands for none.
 use Rattle.float.proofs.Words.{_≡_, true, not, false≢true, List, [], _∷_, ℕ, _≤_, arith, eqb}
 use Rattle.float.proofs.Choice.{chosen}
-use Rattle.kinds.specs.Table.{kinds, unknown, rowOf, kindNumbered, knownKind}
+use Rattle.kinds.specs.Table.{kinds, unknown, rowOf, kindNumbered}
 use Rattle.kinds.specs.declared.table.Kind.{Kind}
 
 -- P of each row

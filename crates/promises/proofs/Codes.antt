@@ -1,7 +1,7 @@
 -- The record step asks the rows one after the other, in the table's order, and its tests decide their conditions.
-use Rattle.float.proofs.Words.{_≡_, refl, ap, _∙_, Bool, true, false, not, _&&_, List, [], _∷_, ℕ, eqb, length, drop, Format}
+use Rattle.float.proofs.Words.{_≡_, refl, Bool, true, false, not, _&&_, List, ℕ, eqb, length, drop, Format}
 use Rattle.float.specs.Choice.{pick}
-use Rattle.matrix.specs.Rows.{Row, on, Gives, WrongLength, NotFinite, NotAbove}
+use Rattle.matrix.specs.Rows.{on, WrongLength}
 use Rattle.matrix.proofs.Rows.{first-row, by-length}
 use Rattle.cholesky.proofs.Rows.{later-rows}
 use Rattle.kinds.specs.Table.{kinds, kindNumbered, knownKind}

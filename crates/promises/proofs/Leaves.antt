@@ -1,5 +1,5 @@
 -- What is left is the slice as it was, the answer to a request of the wrong size, or the answer to a request: each is looked at byte by byte.
-use Rattle.float.proofs.Words.{_≡_, refl, sym, ap, _∙_, Bool, true, not, _&&_, List, [], _∷_, _++_, append-assoc, ℕ, _+_, arith, eqb, length, getD, take, drop}
+use Rattle.float.proofs.Words.{_≡_, refl, sym, ap, _∙_, true, not, _&&_, List, [], _∷_, _++_, append-assoc, ℕ, _+_, arith, eqb, length, getD, take, drop}
 use Rattle.float.proofs.Words.{replicate, length-append, length-take-le, take-suc, take-at, getD-drop, getD-append-add, Format, eq-eqb, ne-eqb}
 use contract.Lifetimes.{Lfts}
 use Rattle.float.specs.Width.{F}
@@ -11,7 +11,7 @@ use Rattle.kinds.specs.Work.{refusedKind, usedFinite, workOf}
 use Rattle.kinds.specs.declared.work.Worked.{Worked}
 use Rattle.kinds.proofs.Works.{Uncounted, work-uncounted}
 use Rattle.wire.specs.Bytes.{numberBytesOf}
-use Rattle.record.specs.Layout.{eventBytes, kindAt, numbersAt, requestSize, codeAt, countAt, markAt, answerSize}
+use Rattle.record.specs.Layout.{eventBytes, requestSize, codeAt, countAt, markAt, answerSize}
 use Rattle.record.specs.Request.{kindOf, askedOf, reservedZero, unusedZero, formOf, judgedOf}
 use Rattle.record.specs.Answer.{recordOf, answeredOf, wrongSizeOf, Step, recordStepOf}
 use Rattle.record.proofs.Answers.{answer-size, code-in-place, refused-unmarked, refused-clear}
@@ -20,7 +20,6 @@ use Rattle.cholesky.specs.Pivots.{oneAtMostZero, refusedPivot}
 use Rattle.promises.specs.Conditions.{pivotsOf, numbersOf}
 use Rattle.promises.specs.Leaves.{Not, Leaves}
 use Rattle.promises.proofs.Codes.{judged-code}
-use Rattle.promises.proofs.Kernels.{laterCode}
 use Rattle.promises.proofs.Pivots.{pivot-given}
 
 -- ---- the head of a record
