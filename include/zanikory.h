@@ -29,7 +29,7 @@ enum zanikory_code {
     ZANIKORY_CODE_UNKNOWN_KIND = 3,      /* the kind of a request is not 1 to 8 */
     ZANIKORY_CODE_RESERVED = 4,          /* a reserved byte or an unused number is not all zero bits */
     ZANIKORY_CODE_INPUT_NOT_FINITE = 5,  /* a used input number is NaN or infinite */
-    ZANIKORY_CODE_PIVOT = 6,             /* a pivot is not above zero */
+    ZANIKORY_CODE_PIVOT = 6,             /* a pivot is at most zero */
     ZANIKORY_CODE_ANSWER_NOT_FINITE = 7  /* a number of the answer is NaN or infinite */
 };
 

@@ -7,7 +7,7 @@ use Rattle.float.specs.Sign.{allFinite}
 use Rattle.float.proofs.Choice.{by-eqb}
 use Rattle.float.proofs.Judged.{by-call}
 use Rattle.matrix.specs.Places.{at, zeros}
-use Rattle.matrix.specs.Rows.{on, Gives, TooShort, NotFinite, NotAbove, kernelRows, pivotRows}
+use Rattle.matrix.specs.Rows.{on, Gives, TooShort, NotFinite, AtMostZero, kernelRows, pivotRows}
 use Rattle.matrix.proofs.Calls.{all-codes, first-codes}
 use Rattle.matrix.proofs.Rows.{Decides, first-row, last-row, by-finite}
 use Rattle.cholesky.specs.Factor.{FactorAnswer, refusedFactor, ifWhole, factorOf, steps2Of, steps3Of, factor2Of, factor3Of}
@@ -32,21 +32,21 @@ all-above f [] e i l = absurd (omega arith)
 all-above f (p ∷ ps) e zero l = neither (le p (zeroF f)) (oneAtMostZero f ps) e .0
 all-above f (p ∷ ps) e (suc i) l = all-above f ps (neither (le p (zeroF f)) (oneAtMostZero f ps) e .1) i (omega arith)
 
-pub by-pivots : (f : Format) (ps : List Float) → Decides (oneAtMostZero f ps) (NotAbove f ps)
+pub by-pivots : (f : Format) (ps : List Float) → Decides (oneAtMostZero f ps) (AtMostZero f ps)
 by-pivots f ps = ((λ e h. false≢true (sym (each-above f ps h) ∙ e)), (λ e w. w (all-above f ps e)))
 
 -- ---- the kernels
 
-pub later-rows : (f : Format) (pivots made : List Float) → Gives (on 6 (NotAbove f pivots) ∷ on 7 (NotFinite made) ∷ [])
+pub later-rows : (f : Format) (pivots made : List Float) → Gives (on 6 (AtMostZero f pivots) ∷ on 7 (NotFinite made) ∷ [])
     (pick (oneAtMostZero f pivots) 6 (pick (allFinite made) 0 7))
 later-rows f pivots made =
-    first-row (oneAtMostZero f pivots) (on 6 (NotAbove f pivots)) (on 7 (NotFinite made) ∷ []) (pick (allFinite made) 0 7) (by-pivots f pivots)
+    first-row (oneAtMostZero f pivots) (on 6 (AtMostZero f pivots)) (on 7 (NotFinite made) ∷ []) (pick (allFinite made) 0 7) (by-pivots f pivots)
     (last-row (allFinite made) (on 7 (NotFinite made)) [] 0 (by-finite made) refl)
 
 pivot-codes : (f : Format) (used pivots made : List Float) {k : ℕ} → k ≡ pick (allFinite used) (pick (oneAtMostZero f pivots) 6 (pick (allFinite made) 0 7)) 5
     → Gives (pivotRows f used pivots made) k
 pivot-codes f used pivots made e =
-    rw e (last-row (allFinite used) (on 5 (NotFinite used)) (on 6 (NotAbove f pivots) ∷ on 7 (NotFinite made) ∷ [])
+    rw e (last-row (allFinite used) (on 5 (NotFinite used)) (on 6 (AtMostZero f pivots) ∷ on 7 (NotFinite made) ∷ [])
     (pick (oneAtMostZero f pivots) 6 (pick (allFinite made) 0 7)) (by-finite used) (later-rows f pivots made))
 
 module _ (f : Format) (l a : List Float) where

@@ -21,7 +21,7 @@ abbrev pub pivotAnswer : Format → Pivot → PivotAnswer
 pivotAnswer f (Root x) = record { code = 0; pivot = 0; root = x }
 pivotAnswer f (Refused k) = record { code = 6; pivot = k; root = zeroF f }
 
--- 6 where the pivot t with the number k is not above zero. -0 is not; of a NaN the test fails, and it has a root, which is a NaN.
+-- 6 where the pivot t with the number k is at most zero, -0 too. Of a NaN the test fails, and it has a root, which is a NaN.
 unfoldable pub pivotOf : Format → Float → ℕ → PivotAnswer
 pivotOf f t k = pick (le t (zeroF f)) (record { code = 6; pivot = k; root = zeroF f }) (record { code = 0; pivot = 0; root = rootOf f t })
 

@@ -19,7 +19,7 @@ pub struct Refusal {
     pub pivot: u8,
 }
 
-// A pivot that is not above zero is refused, -0 too. One that is no number passes, as in the crate, and so does its root.
+// A pivot that is at most zero is refused, -0 too. One that is no number passes, as in the crate, and so does its root.
 pub fn pivot_step(t: Real, k: u8) -> Pivot
     ensures { λ p. ⌜ pivotAnswer F p ≡ pivotOf F t k ⌝ }
 {

@@ -4,13 +4,13 @@ pub use mathlib.Core.Bool.{Bool, true, false, true≢false, _||_, not, false≢t
 pub use mathlib.Core.List.{List, [], _∷_, _++_, append-nil, append-assoc, map}
 pub use mathlib.Core.Logic.{_⊎_, inl, inr, ⊎-elim}
 pub use Prim.Native.Nat.{ℕ, _+_, _<_, _/_, _≤_, _-_, _*_, _^_, suc, min, max, zero, _%_, compare, Ordering, Ordering·lt, Ordering·eq, Ordering·gt}
-pub use native.Mathlib.Nat.{add-zero, mul-assoc, zero-mul, zero-div, zero-mod, mod-eq-of-lt, mul-pos, mul-le-mul-right, lt-of-lt-of-le, lt-of-le-of-lt}
-pub use native.Mathlib.Nat.{le-trans, le-of-eq, one-mul, add-mul, add-comm, zero-lt-suc, lt-irrefl, lt-trans, le-of-lt, le-antisymm, not-le-of-lt, lt-of-not-le}
-pub use native.Mathlib.Nat.{le-of-suc-le-suc, mul-le-mul, mul-lt-mul-of-pos-right, lt-of-mul-lt-mul-right, le-of-mul-le-mul-right, mul-comm, mul-left-comm}
-pub use native.Mathlib.Nat.{eq-of-mul-eq-mul-right, eq-zero-or-pos, mul-one, pow-le-pow-right, div-lt-iff-lt-mul, mod-lt, div-add-mod', mul-div-cancel}
-pub use native.Mathlib.Nat.{mul-zero, zero-add, sub-zero, mod-mod-of-dvd, dvd-mul-right, le-suc, pow-suc, one-le-pow, mul-add, mul-le-mul-left, mul-right-comm}
-pub use native.Mathlib.Nat.{pow-succ', suc-mul, div-one, div-mul-le-self, le-refl, eq-or-lt-of-le, div-eq-of-lt, add-mul-div-right, add-mul-mod-self-right}
-pub use native.Mathlib.Nat.{div-le-of-le-mul, pow-zero, mul-suc, add-assoc}
+pub use native.Mathlib.Nat.{add-zero, mul-assoc, zero-mul, zero-div, zero-mod, mod-eq-of-lt, mul-pos, mul-le-mul-right, lt-of-lt-of-le, ne-of-lt}
+pub use native.Mathlib.Nat.{lt-of-le-of-lt, le-trans, le-of-eq, one-mul, add-mul, add-comm, zero-lt-suc, lt-irrefl, lt-trans, le-of-lt, le-antisymm}
+pub use native.Mathlib.Nat.{not-le-of-lt, lt-of-not-le, le-of-suc-le-suc, mul-le-mul, mul-lt-mul-of-pos-right, lt-of-mul-lt-mul-right, le-of-mul-le-mul-right}
+pub use native.Mathlib.Nat.{mul-comm, mul-left-comm, eq-of-mul-eq-mul-right, eq-zero-or-pos, mul-one, pow-le-pow-right, div-lt-iff-lt-mul, mod-lt, div-add-mod'}
+pub use native.Mathlib.Nat.{mul-div-cancel, mul-zero, zero-add, sub-zero, mod-mod-of-dvd, dvd-mul-right, le-suc, pow-suc, one-le-pow, mul-add, mul-le-mul-left}
+pub use native.Mathlib.Nat.{mul-right-comm, pow-succ', suc-mul, div-one, div-mul-le-self, le-refl, eq-or-lt-of-le, div-eq-of-lt, add-mul-div-right}
+pub use native.Mathlib.Nat.{add-mul-mod-self-right, div-le-of-le-mul, pow-zero, mul-suc, add-assoc}
 pub use native.Mathlib.Omega.{arith}
 pub use native.Mathlib.Numerals.{add-one}
 pub use lib.Dec.{eqb, T, leb, ltb, leb→le, nleb→lt, ltb→lt, nltb→le, lit≤, le→leb, eqb→eq, lt→ltb, lit<, eqb·suc-zero, eqb·zero-suc, isLe, isEq}

@@ -1,7 +1,7 @@
 -- What holds of each row of the table holds of every kind: a number finds its row, or the row that stands for none.
 use Rattle.float.proofs.Words.{_≡_, true, not, false≢true, List, [], _∷_, ℕ, _≤_, arith, eqb}
 use Rattle.float.proofs.Choice.{chosen}
-use Rattle.kinds.specs.Table.{kinds, unknown, rowOf, kindNumbered}
+use Rattle.kinds.specs.Table.{kinds, unknown, numberedIn, kindNumbered}
 use Rattle.kinds.specs.declared.table.Kind.{Kind}
 
 -- P of each row
@@ -18,9 +18,9 @@ given : (P : Kind → Type 0) (ks : List Kind) (G : Type 0) → (EachOf P ks →
 given P [] G g = g tt
 given P (k ∷ ks) G g = λ (p : P k). given P ks G (λ (each : EachOf P ks). g (p, each))
 
-of-row : (P : Kind → Type 0) (n : ℕ) (ks : List Kind) → P unknown → EachOf P ks → P (rowOf n ks)
+of-row : (P : Kind → Type 0) (n : ℕ) (ks : List Kind) → P unknown → EachOf P ks → P (numberedIn n ks)
 of-row P n [] none each = none
-of-row P n (k ∷ ks) none each = chosen P (eqb n (k .number)) k (rowOf n ks) (each .0) (of-row P n ks none (each .1))
+of-row P n (k ∷ ks) none each = chosen P (eqb n (k .number)) k (numberedIn n ks) (each .0) (of-row P n ks none (each .1))
 
 pub each-kind : (P : Kind → Type 0) → P unknown → Given P kinds ((n : ℕ) → P (kindNumbered n))
 each-kind P none = given P kinds ((n : ℕ) → P (kindNumbered n)) (λ (each : EachOf P kinds) (n : ℕ). of-row P n kinds none each)

@@ -28,12 +28,12 @@ kinds =
 abbrev pub unknown : Kind
 unknown = row 0 0 0 false Unknown
 
-abbrev pub rowOf : ℕ → List Kind → Kind
-rowOf n [] = unknown
-rowOf n (k ∷ ks) = pick (eqb n (k .number)) k (rowOf n ks)
+abbrev pub numberedIn : ℕ → List Kind → Kind
+numberedIn n [] = unknown
+numberedIn n (k ∷ ks) = pick (eqb n (k .number)) k (numberedIn n ks)
 
 abbrev pub kindNumbered : ℕ → Kind
-kindNumbered n = rowOf n kinds
+kindNumbered n = numberedIn n kinds
 
 abbrev pub knownKind : ℕ → Bool
 knownKind n = not (eqb (kindNumbered n .number) 0)

@@ -52,6 +52,9 @@ put-code : (n : ℕ) (a : Answer (List Float)) (y : List Float) → n ≤ length
 unfolding putOf
 put-code n a y h = rw (le-leb n (length y) h)
 
+short : (n : ℕ) (z : List Float) → leb n (length z) ≡ false → TooShort z n
+short n z e h = true≢false (sym (le-leb n (length z) h) ∙ e)
+
 -- of two slices that both have n places
 pub mul-codes : (f : Format) (n : ℕ) (xs x y : List Float)
     → Gives (on 2 (WrongLength y n) ∷ on 1 (WrongLength x n) ∷ kernelRows (xs ++ x) (timesOf f n xs x)) (mulOf f n xs x y .code)
@@ -85,11 +88,8 @@ first-codes n call x y rows g =
         subst (Gives rows) (sym (put-code n (call (take n x)) y (leb-true n (length y) e))) g,
       ),
     ))
-    (λ q. inr ((λ w. w (leb-true n (length y) e)), inl (short x q, refl))))
-    (λ e. inl (short y e, refl))
-  where
-    short : (z : List Float) → leb n (length z) ≡ false → TooShort z n
-    short z e h = true≢false (sym (le-leb n (length z) h) ∙ e)
+    (λ q. inr ((λ w. w (leb-true n (length y) e)), inl (short n x q, refl))))
+    (λ e. inl (short n y e, refl))
 
 pub sym-mul-codes : (f : Format) (h x y : List Float)
     → Gives (on 2 (TooShort y 3) ∷ on 1 (TooShort x 3) ∷ kernelRows (h ++ take 3 x) (symTimesOf f h (take 3 x))) (symMulOf f h x y .code)
@@ -108,8 +108,5 @@ form-codes f h y x =
     by-test P (leb 3 (length y)) _ _
     (λ e. by-test P (leb 3 (length x)) _ _
     (λ q. inr ((λ w. w (leb-true 3 (length y) e)), inr ((λ w. w (leb-true 3 (length x) q)), one-codes f _ _)))
-    (λ q. inr ((λ w. w (leb-true 3 (length y) e)), inl (short x q, refl))))
-    (λ e. inl (short y e, refl))
-  where
-    short : (z : List Float) → leb 3 (length z) ≡ false → TooShort z 3
-    short z e h = true≢false (sym (le-leb 3 (length z) h) ∙ e)
+    (λ q. inr ((λ w. w (leb-true 3 (length y) e)), inl (short 3 x q, refl))))
+    (λ e. inl (short 3 y e, refl))

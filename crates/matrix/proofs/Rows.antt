@@ -1,6 +1,6 @@
 -- The first row that holds gives the number: by going down the rows. A test that decides a row's condition takes its number or goes on.
-use Rattle.float.proofs.Words.{_≡_, refl, sym, _∙_, Bool, true, false, not, _&&_, true≢false, false≢true, List, [], _∷_, _⊎_, inl, inr, ⊎-elim, ℕ, suc}
-use Rattle.float.proofs.Words.{_<_, arith, eqb, ltb, length, Float, eqb-true, eq-eqb, ltb-true, lt-ltb}
+use Rattle.float.proofs.Words.{_≡_, refl, sym, _∙_, Bool, true, false, not, _&&_, true≢false, false≢true, List, [], _∷_, _⊎_, inl, inr, ⊎-elim, ℕ, suc, _<_}
+use Rattle.float.proofs.Words.{arith, eqb, ltb, length, Float, eqb-true, eq-eqb, ltb-true, lt-ltb}
 use Rattle.float.specs.Choice.{pick}
 use Rattle.float.specs.Sign.{finite, allFinite}
 use Rattle.float.proofs.Finite.{both-true, at-finite}

@@ -1,8 +1,8 @@
 -- A list of n numbers is the table of what stands at its places: by induction on n.
 use Rattle.float.proofs.Words.{[], _≡_, refl, ap, _∙_, true, List, _∷_, _++_, ℕ, zero, suc, _≤_, _<_, zero-add, le-of-suc-le-suc, arith, length, take, drop}
-use Rattle.float.proofs.Words.{take-all, sets, sets-eq, Float, Format}
+use Rattle.float.proofs.Words.{sym, take-all, sets, sets-eq, Float, Format}
 use Rattle.float.specs.Sign.{finite, allFinite}
-use Rattle.float.proofs.Finite.{zero-finite}
+use Rattle.float.proofs.Finite.{zero-finite, at-finite}
 use Rattle.matrix.specs.Places.{zeros, at, tabulate}
 
 pub length-tabulate : (n : ℕ) (g : ℕ → Float) → length (tabulate n g) ≡ n
@@ -47,6 +47,15 @@ pub table-finite : (n : ℕ) (g : ℕ → Float) → ((i : ℕ) → i < n → fi
 unfolding allFinite
 table-finite zero g h = refl
 table-finite (suc n) g h = rw (h 0 (omega arith), table-finite n (λ (i : ℕ). g (suc i)) (λ i l. h (suc i) (omega arith)))
+
+-- the first n numbers of a table of m
+pub firsts-finite : (m n : ℕ) (g : ℕ → Float) → n ≤ m → allFinite (tabulate n (at (tabulate m g))) ≡ true → (i : ℕ) → i < n → finite (g i) ≡ true
+firsts-finite m n g l h i b =
+    let t : allFinite (tabulate n g) ≡ true = ap allFinite (sym (first-tabulate n m g l)) ∙ h in
+    ap finite (sym (at-tabulate n g i b)) ∙ at-finite (tabulate n g) t i (rw (length-tabulate n g) b)
+
+pub finite-firsts : (m n : ℕ) (g : ℕ → Float) → n ≤ m → ((i : ℕ) → i < n → finite (g i) ≡ true) → allFinite (tabulate n (at (tabulate m g))) ≡ true
+finite-firsts m n g l h = ap allFinite (first-tabulate n m g l) ∙ table-finite n g h
 
 pub zeros-finite : (f : Format) (n : ℕ) → allFinite (zeros f n) ≡ true
 unfolding allFinite

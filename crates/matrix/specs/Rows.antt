@@ -40,8 +40,8 @@ abbrev pub NotFinite : List Float → Type 0
 NotFinite xs = ((i : ℕ) → i < length xs → finite (at xs i) ≡ true) → ⊥
 
 -- a number is at most zero
-abbrev pub NotAbove : Format → List Float → Type 0
-NotAbove f xs = ((i : ℕ) → i < length xs → le (at xs i) (zeroF f) ≡ false) → ⊥
+abbrev pub AtMostZero : Format → List Float → Type 0
+AtMostZero f xs = ((i : ℕ) → i < length xs → le (at xs i) (zeroF f) ≡ false) → ⊥
 
 -- ---- the rows of a kernel, over the numbers that it uses and those that it makes
 
@@ -50,4 +50,4 @@ kernelRows used made = on 5 (NotFinite used) ∷ on 7 (NotFinite made) ∷ []
 
 -- of one that stops at a pivot
 abbrev pub pivotRows : Format → List Float → List Float → List Float → List Row
-pivotRows f used pivots made = on 5 (NotFinite used) ∷ on 6 (NotAbove f pivots) ∷ on 7 (NotFinite made) ∷ []
+pivotRows f used pivots made = on 5 (NotFinite used) ∷ on 6 (AtMostZero f pivots) ∷ on 7 (NotFinite made) ∷ []

@@ -18,7 +18,7 @@ pub const RESERVED: u8 = 4;
 // A used input number is NaN or infinite.
 pub const INPUT_NOT_FINITE: u8 = 5;
 
-// A pivot is not above zero.
+// A pivot is at most zero.
 pub const PIVOT: u8 = 6;
 
 // A number of the answer is NaN or infinite.

@@ -1,6 +1,6 @@
 -- Columns that are exchanged as numbers are exchanged as bytes: a column's bytes in an answer are those of its three numbers.
-use Rattle.float.proofs.Words.{_≡_, sym, ap, _∙_, List, _∷_, _++_, append-assoc, ℕ, _+_, _*_, _≤_, arith, length, take, drop, length-append}
-use Rattle.float.proofs.Words.{length-take-le, length-drop, getD-drop, drop-append-add, nan, Float, Format}
+use Rattle.float.proofs.Words.{_≡_, sym, ap, _∙_, List, _∷_, _++_, append-assoc, ℕ, _+_, _*_, _≤_, arith, length, take, drop, length-append, length-take-le}
+use Rattle.float.proofs.Words.{length-drop, getD-drop, drop-append-add, nan, Float, Format}
 use Rattle.matrix.specs.Places.{at}
 use Rattle.matrix.proofs.Tables.{tabulate-same, tabulate-take}
 use Rattle.eigen.specs.Reversed.{columnOf, ColumnsExchanged}

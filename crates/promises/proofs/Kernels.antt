@@ -1,4 +1,4 @@
--- A kind's code over finite numbers: 6 where a pivot is not above zero, else 7 where a number of the answer is not finite, else 0.
+-- A kind's code over finite numbers: 6 where a pivot is at most zero, else 7 where a number of the answer is not finite, else 0.
 -- It is the kernel's own exact code, of which 5 is left out.
 use Rattle.float.proofs.Words.{_≡_, _∙_, Bool, true, _++_, ℕ, Format}
 use Rattle.float.specs.Choice.{pick}

@@ -1,6 +1,6 @@
 -- What is left is the slice as it was, the answer to a request of the wrong size, or the answer to a request: each is looked at byte by byte.
 use Rattle.float.proofs.Words.{_≡_, refl, sym, ap, _∙_, true, not, _&&_, List, [], _∷_, _++_, append-assoc, ℕ, _+_, arith, eqb, length, getD, take, drop}
-use Rattle.float.proofs.Words.{replicate, length-append, length-take-le, take-suc, take-at, getD-drop, getD-append-add, Format, eq-eqb, ne-eqb}
+use Rattle.float.proofs.Words.{replicate, length-append, length-take-le, take-suc, take-at, getD-drop, getD-append-add, Format}
 use contract.Lifetimes.{Lfts}
 use Rattle.float.specs.Width.{F}
 use Rattle.float.specs.Choice.{pick}
@@ -13,8 +13,8 @@ use Rattle.kinds.proofs.Works.{Uncounted, work-uncounted}
 use Rattle.wire.specs.Bytes.{numberBytesOf}
 use Rattle.record.specs.Layout.{eventBytes, requestSize, codeAt, countAt, markAt, answerSize}
 use Rattle.record.specs.Request.{kindOf, askedOf, reservedZero, unusedZero, formOf, judgedOf}
-use Rattle.record.specs.Answer.{recordOf, answeredOf, wrongSizeOf, Step, recordStepOf}
-use Rattle.record.proofs.Answers.{answer-size, code-in-place, refused-unmarked, refused-clear}
+use Rattle.record.specs.Answer.{recordOf, Step, recordStepOf}
+use Rattle.record.proofs.Answers.{with-room, wrong-size, no-room, answer-size, code-in-place, refused-unmarked, refused-clear}
 use Rattle.record.proofs.answer.zanikory_answer_record.Reads as answer-record
 use Rattle.cholesky.specs.Pivots.{oneAtMostZero, refusedPivot}
 use Rattle.promises.specs.Conditions.{pivotsOf, numbersOf}
@@ -41,18 +41,18 @@ record-event f s w h =
 
 module _ (f : Format) (s : List ℕ) where
   -- its code is none of those of a wrong size
-  abbrev Sized : ℕ → Type 0
-  Sized k = Not 1 k × Not 2 k
+  abbrev PastSizes : ℕ → Type 0
+  PastSizes k = Not 1 k × Not 2 k
 
-  judged-sized : Sized (judgedOf f s .code)
-  judged-sized =
+  judged-past-sizes : PastSizes (judgedOf f s .code)
+  judged-past-sizes =
       let k = kindNumbered (kindOf s) .kernel in
       rw (judged-code f s [])
-      (chosen Sized (not (knownKind (kindOf s))) 3 _ ((λ e. omega arith), (λ e. omega arith))
-      (chosen Sized (not (reservedZero s && unusedZero f (kindNumbered (kindOf s)) s)) 4 _ ((λ e. omega arith), (λ e. omega arith))
-      (chosen Sized (not (usedFinite (askedOf f s))) 5 _ ((λ e. omega arith), (λ e. omega arith))
-      (chosen Sized (oneAtMostZero f (pivotsOf f k (askedOf f s))) 6 _ ((λ e. omega arith), (λ e. omega arith))
-      (chosen Sized (allFinite (numbersOf f k (askedOf f s))) 0 7 ((λ e. omega arith), (λ e. omega arith)) ((λ e. omega arith), (λ e. omega arith)))))))
+      (chosen PastSizes (not (knownKind (kindOf s))) 3 _ ((λ e. omega arith), (λ e. omega arith))
+      (chosen PastSizes (not (reservedZero s && unusedZero f (kindNumbered (kindOf s)) s)) 4 _ ((λ e. omega arith), (λ e. omega arith))
+      (chosen PastSizes (not (usedFinite (askedOf f s))) 5 _ ((λ e. omega arith), (λ e. omega arith))
+      (chosen PastSizes (oneAtMostZero f (pivotsOf f k (askedOf f s))) 6 _ ((λ e. omega arith), (λ e. omega arith))
+      (chosen PastSizes (allFinite (numbersOf f k (askedOf f s))) 0 7 ((λ e. omega arith), (λ e. omega arith)) ((λ e. omega arith), (λ e. omega arith)))))))
 
   judged-uncounted : Uncounted (kindNumbered (kindOf s) .counts) (judgedOf f s)
   unfolding judgedOf
@@ -91,21 +91,7 @@ module _ (f : Format) (s a : List ℕ) (room : length a ≡ answerSize f) where
     clear = (λ _. refused-clear f s a room);
   }
 
--- ---- the three ways of the step
-
-with-room : (f : Format) (s a : List ℕ) → length a ≡ answerSize f → length s ≡ requestSize f
-    → recordStepOf f s a ≡ record { code = judgedOf f s .code; answer = answeredOf f s }
-unfolding recordStepOf
-with-room f s a k h = rw (eq-eqb _ (answerSize f) k, eq-eqb _ (requestSize f) h)
-
-wrong-size : (f : Format) (s a : List ℕ) → length a ≡ answerSize f → (length s ≡ requestSize f → ⊥)
-    → recordStepOf f s a ≡ record { code = 1; answer = wrongSizeOf f }
-unfolding recordStepOf
-wrong-size f s a k h = rw (eq-eqb _ (answerSize f) k, ne-eqb _ (requestSize f) h)
-
-no-room : (f : Format) (s a : List ℕ) → (length a ≡ answerSize f → ⊥) → recordStepOf f s a ≡ record { code = 2; answer = a }
-unfolding recordStepOf
-no-room f s a k = rw (ne-eqb _ (answerSize f) k)
+-- ---- each way of the step
 
 answered : (f : Format) (s a : List ℕ) → length a ≡ answerSize f → length s ≡ requestSize f
     → Leaves f s a (recordStepOf f s a .code) (recordStepOf f s a .answer)
@@ -115,8 +101,8 @@ answered f s a room size =
     let count : getD (recordStepOf f s a .answer) countAt 0 ≡ judgedOf f s .count =
     ap (λ (t : Step). getD (t .answer) countAt 0) e ∙ record-count f (take eventBytes s) (kindOf s) (judgedOf f s) event-size in
     headed f s a room (λ _. ap (λ (t : Step). take codeAt (t .answer)) e ∙ record-event f s (judgedOf f s) size)
-    (λ k. absurd (judged-sized f s .0 (sym (ap (λ (t : Step). t .code) e) ∙ k)))
-    (λ k. judged-sized f s .1 (sym (ap (λ (t : Step). t .code) e) ∙ k))
+    (λ k. absurd (judged-past-sizes f s .0 (sym (ap (λ (t : Step). t .code) e) ∙ k)))
+    (λ k. judged-past-sizes f s .1 (sym (ap (λ (t : Step). t .code) e) ∙ k))
     (λ k. count ∙ pivot-given f s (sym (ap (λ (t : Step). t .code) e) ∙ k))
     (λ k c. count ∙ judged-uncounted f s (λ q. k (ap (λ (t : Step). t .code) e ∙ q)) (λ q. c (ap (λ (t : Step). t .code) e ∙ q .0, q .1)))
 

@@ -8,7 +8,7 @@ use lib.ListN.{getD}
 use lib.Ieee.{Float, Format}
 use Rattle.float.specs.Sign.{finite}
 use Rattle.matrix.specs.Places.{zeros}
-use Rattle.matrix.specs.Rows.{Row, on, Gives, WrongLength, NotFinite, NotAbove}
+use Rattle.matrix.specs.Rows.{Row, on, Gives, WrongLength, NotFinite, AtMostZero}
 use Rattle.cholesky.specs.Factor.{steps2Of, steps3Of}
 use Rattle.cholesky.specs.Pivots.{pivots2Of, pivots3Of, refusedPivot}
 use Rattle.cholesky.specs.Solve.{solution2Of, solution3Of}
@@ -35,12 +35,12 @@ NoneOf (k ∷ ks) n = (n ≡ k .number → ⊥) × NoneOf ks n
 
 -- ---- 4: bytes that are to be zero, the reserved ones and those of the numbers that the kind does not use
 
-abbrev pub Within : ℕ → ℕ → ℕ → Type 0
-Within a e i = (a ≤ i) × (i < e)
+abbrev pub Between : ℕ → ℕ → ℕ → Type 0
+Between a e i = (a ≤ i) × (i < e)
 
 abbrev pub Unused : Format → Kind → ℕ → Type 0
 Unused f k i =
-    Within wayAt nineAt i ⊎ (Within (placeOf f nineAt (k .nine)) (threeAt f) i ⊎ Within (placeOf f (threeAt f) (k .three)) (requestSize f) i)
+    Between wayAt nineAt i ⊎ (Between (placeOf f nineAt (k .nine)) (threeAt f) i ⊎ Between (placeOf f (threeAt f) (k .three)) (requestSize f) i)
 
 abbrev pub NotZero : Format → Kind → List ℕ → Type 0
 NotZero f k s = ((i : ℕ) → Unused f k i → getD s i 0 ≡ 0) → ⊥
@@ -69,21 +69,21 @@ pivotsOf f Unknown a = []
 
 -- ---- 7: the numbers of the answer, and for the 3x3 kernels of eigen and svd the worked matrix, among whose numbers the values are, or their magnitudes
 
-abbrev pub factor2 : Format → Asked → List Float
-factor2 f a = steps2Of f (zeros f 3) (firstOf 3 (a .nine)) .factor
+abbrev pub factorMade2 : Format → Asked → List Float
+factorMade2 f a = steps2Of f (zeros f 3) (firstOf 3 (a .nine)) .factor
 
-abbrev pub factor3 : Format → Asked → List Float
-factor3 f a = steps3Of f (zeros f 6) (firstOf 6 (a .nine)) .factor
+abbrev pub factorMade3 : Format → Asked → List Float
+factorMade3 f a = steps3Of f (zeros f 6) (firstOf 6 (a .nine)) .factor
 
 abbrev pub numbersOf : Format → Kernel → Asked → List Float
 numbersOf f Eigen2x2 a = eigen2.numbers2Of (eigen2.solved2 f (firstOf 3 (a .nine)))
 numbersOf f Eigen3x3 a = eigen3.numbersOf (eigen3.lastOf f (firstOf 6 (a .nine)))
 numbersOf f Svd2x2 a = svd2.numbers2Of (svd2.factors2Of (svd2.sides2Of f (firstOf 4 (a .nine))))
 numbersOf f Svd3x3 a = svd3.numbersOf (svd3.lastOf f (firstOf 9 (a .nine)))
-numbersOf f Factor2x2 a = factor2 f a
-numbersOf f Factor3x3 a = factor3 f a
-numbersOf f Solve2x2 a = factor2 f a ++ solution2Of f (factor2 f a) (firstOf 2 (a .three))
-numbersOf f Solve3x3 a = factor3 f a ++ solution3Of f (factor3 f a) (firstOf 3 (a .three))
+numbersOf f Factor2x2 a = factorMade2 f a
+numbersOf f Factor3x3 a = factorMade3 f a
+numbersOf f Solve2x2 a = factorMade2 f a ++ solution2Of f (factorMade2 f a) (firstOf 2 (a .three))
+numbersOf f Solve3x3 a = factorMade3 f a ++ solution3Of f (factorMade3 f a) (firstOf 3 (a .three))
 numbersOf f Unknown a = []
 
 -- ---- the rows
@@ -102,7 +102,7 @@ rows f request answer =
     -- a used input number is NaN or infinite
     ∷ on 5 (UsedNotFinite f k request)
     -- a pivot is at most zero
-    ∷ on 6 (NotAbove f (pivotsOf f (k .kernel) (askedOf f request)))
+    ∷ on 6 (AtMostZero f (pivotsOf f (k .kernel) (askedOf f request)))
     -- a number of the answer, the worked matrix included, is NaN or infinite
     ∷ on 7 (NotFinite (numbersOf f (k .kernel) (askedOf f request)))
     ∷ []

@@ -12,11 +12,11 @@ use Rattle.kinds.specs.declared.work.Worked.{Worked}
 -- ---- a row
 
 -- the root, a kind of request, or the factor of size 2 or 3 by itself
-pub data Asked : Type 0 where
-  root : Asked
-  kind : ℕ → Asked
-  factor2 : Asked
-  factor3 : Asked
+pub data Call : Type 0 where
+  root : Call
+  kind : ℕ → Call
+  factor2 : Call
+  factor3 : Call
 
 -- as a record has it: code, byte 6, byte 7, values, left, right
 pub record Shown : Type 0 where
@@ -28,7 +28,7 @@ pub record Shown : Type 0 where
   pub right : List ℕ
 
 pub record Row : Type 0 where
-  pub asked : Asked
+  pub asked : Call
   pub nine : List ℕ
   pub three : List ℕ
   pub answer : Shown
@@ -54,7 +54,7 @@ ofRoot xs = record { code = 0; six = 0; seven = 0; values = patterns (map (rootO
 abbrev pub old : ℕ → List ℕ
 old n = replicate n 0x4008000000000000
 
-abbrev pub answerTo : Asked → List ℕ → List ℕ → Shown
+abbrev pub answerTo : Call → List ℕ → List ℕ → Shown
 answerTo root nine three = ofRoot (floats nine)
 answerTo (kind k) nine three = ofKind (workOf binary64 (record { kind = k; way = 0; nine = floats nine; three = floats three }))
 answerTo factor2 nine three = ofFactor (factor2Of binary64 (floats (old 3)) (floats nine))
@@ -86,7 +86,7 @@ rootRow x y = record { asked = root; nine = x ∷ []; three = []; answer = recor
 abbrev pub kindRow : ℕ → List ℕ → List ℕ → Shown → Row
 kindRow k nine three answer = record { asked = kind k; nine = nine; three = three; answer = answer }
 
-abbrev pub factorRow : Asked → List ℕ → Shown → Row
+abbrev pub factorRow : Call → List ℕ → Shown → Row
 factorRow asked nine answer = record { asked = asked; nine = nine; three = []; answer = answer }
 
 -- ---- numbers

@@ -10,8 +10,24 @@ use Rattle.wire.specs.Bytes.{numberBytes}
 use Rattle.wire.proofs.Numbers.{numbers-length, zeros-bytes}
 use Rattle.record.specs.Layout.{eventBytes, numbersAt, requestSize, codeAt, markAt, answerSize}
 use Rattle.record.specs.Request.{kindOf, askedOf, formOf, judgedOf}
-use Rattle.record.specs.Answer.{recordOf, Step, recordStepOf}
+use Rattle.record.specs.Answer.{recordOf, answeredOf, wrongSizeOf, Step, recordStepOf}
 use Rattle.record.specs.Stream.{requestOf, answersOf}
+
+-- ---- the three ways of the step: an answer, the answer to a request of the wrong size, and nothing written
+
+pub with-room : (f : Format) (s a : List ℕ) → length a ≡ answerSize f → length s ≡ requestSize f
+    → recordStepOf f s a ≡ record { code = judgedOf f s .code; answer = answeredOf f s }
+unfolding recordStepOf
+with-room f s a k h = rw (eq-eqb _ (answerSize f) k, eq-eqb _ (requestSize f) h)
+
+pub wrong-size : (f : Format) (s a : List ℕ) → length a ≡ answerSize f → (length s ≡ requestSize f → ⊥)
+    → recordStepOf f s a ≡ record { code = 1; answer = wrongSizeOf f }
+unfolding recordStepOf
+wrong-size f s a k h = rw (eq-eqb _ (answerSize f) k, ne-eqb _ (requestSize f) h)
+
+pub no-room : (f : Format) (s a : List ℕ) → (length a ≡ answerSize f → ⊥) → recordStepOf f s a ≡ record { code = 2; answer = a }
+unfolding recordStepOf
+no-room f s a k = rw (ne-eqb _ (answerSize f) k)
 
 -- ---- a request of the right size
 
@@ -64,13 +80,10 @@ code-in-place f s a h = each-record (λ (t : Step). getD (t .answer) codeAt 0 �
 same? : (m n : ℕ) → (m ≡ n) ⊎ (m ≡ n → ⊥)
 same? m n = by-eqb {A = ℕ} (λ _. (m ≡ n) ⊎ (m ≡ n → ⊥)) m n 0 0 inl inr
 
-no-room : (f : Format) (s a : List ℕ) → (length a ≡ answerSize f → ⊥) → recordStepOf f s a .code ≡ 2
-unfolding recordStepOf
-no-room f s a n = rw (ne-eqb (length a) (answerSize f) n)
-
 pub code-unless-2 : (f : Format) (s a : List ℕ) → (recordStepOf f s a .code ≡ 2 → ⊥) → getD (recordStepOf f s a .answer) codeAt 0 ≡ recordStepOf f s a .code
 code-unless-2 f s a k =
-    ⊎-elim (λ (e : length a ≡ answerSize f). code-in-place f s a e) (λ (n : length a ≡ answerSize f → ⊥). absurd (k (no-room f s a n)))
+    ⊎-elim (λ (e : length a ≡ answerSize f). code-in-place f s a e)
+    (λ (n : length a ≡ answerSize f → ⊥). absurd (k (ap (λ (t : Step). t .code) (no-room f s a n))))
     (same? (length a) (answerSize f))
 
 -- ---- with a code other than 0 the mark is zero, and every byte behind it

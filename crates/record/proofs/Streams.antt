@@ -1,15 +1,15 @@
 -- Answers one after the other: one more behind those that are there, with what lies behind it as it was.
 use Rattle.float.proofs.Words.{_≡_, ap, List, _++_, append-assoc, ℕ, _+_, _*_, _≤_, mul-suc, arith, add-one, length, take, drop, length-take, length-append}
-use Rattle.float.proofs.Words.{take-at, drop-at, drop-drop, Format, eq-eqb}
+use Rattle.float.proofs.Words.{take-at, drop-at, drop-drop, Format}
 use Rattle.record.specs.Layout.{requestSize, answerSize}
-use Rattle.record.specs.Answer.{answeredOf, recordStepOf}
+use Rattle.record.specs.Answer.{answeredOf, Step, recordStepOf}
 use Rattle.record.specs.Stream.{requestOf, answersOf}
+use Rattle.record.proofs.Answers.{with-room}
 
 -- a record step on a request and a place of the right sizes
 pub stepped : (f : Format) (request answer : List ℕ) → length request ≡ requestSize f → length answer ≡ answerSize f
     → recordStepOf f request answer .answer ≡ answeredOf f request
-unfolding recordStepOf
-stepped f request answer h k = rw (eq-eqb _ (answerSize f) k, eq-eqb _ (requestSize f) h)
+stepped f request answer h k = ap (λ (t : Step). t .answer) (with-room f request answer k h)
 
 -- a part of n bytes exchanged for one of its size
 pub before-part : (l y r z : List ℕ) (b n : ℕ) → b + n ≤ length l → length y ≡ n → y ≡ z → take (b + n) (take b l ++ (y ++ r)) ≡ take b l ++ z

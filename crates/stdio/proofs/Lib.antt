@@ -1,4 +1,3 @@
-pub mod Left
 pub mod Moving
 pub mod Outcomes
 pub mod Rest

@@ -1,6 +1,6 @@
 -- An answer above 0 is a count of bytes, 0 is none, and one below 0 goes by the signal.
-use Rattle.float.proofs.Words.{_≡_, refl, ap, _∙_, Bool, true, false, false≢true, ℕ, zero, suc, _≤_, _<_, min, arith, T, lit≤, ℤ, pos, negsuc}
-use Rattle.float.proofs.Words.{natAbs, lt-of-lt-of-le, ltb-false}
+use Rattle.float.proofs.Words.{_≡_, refl, ap, _∙_, Bool, true, false, false≢true, ℕ, zero, suc, _≤_, _<_, min, arith, T, lit≤, ℤ, pos, negsuc, natAbs}
+use Rattle.float.proofs.Words.{lt-of-lt-of-le, ltb-false}
 use lib.Signed.{nonNeg, ltZ}
 use mir.Syntax.{w64}
 use mir.Val.{SFits, Fits}

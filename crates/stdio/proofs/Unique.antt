@@ -2,10 +2,9 @@
 use Rattle.float.proofs.Words.{Bool, ℕ, ℤ}
 use contract.Lifetimes.{Lfts}
 use Rattle.float.specs.OneAnswer.{OneAnswer, OneOutcome}
-use Rattle.float.proofs.OneAnswer.{named}
+use Rattle.float.proofs.OneAnswer.{named, left-named}
 use Rattle.stdio.specs.declared.Outcome.{Outcome}
 use Rattle.stdio.specs.declared.Writing.{Writing}
-use Rattle.stdio.proofs.Left.{left-named}
 use Rattle.stdio.proofs.outcome_of.Reads as outcome-of
 use Rattle.stdio.proofs.to_write.Reads as to-write
 use Rattle.stdio.proofs.wrote.Reads as wrote

@@ -1,8 +1,9 @@
 -- The zero test of bytes, from a place on, and bytes taken together bit by bit: none has a bit exactly where all are zero.
-use Rattle.float.proofs.Words.{_≡_, refl, sym, ap, _∙_, Bool, true, false, _&&_, and-assoc, List, ℕ, _+_, _-_, _≤_, _<_, arith, eqb, length, getD, eq-eqb}
-use Rattle.float.proofs.Words.{ne-eqb, eqb-true, eqb-false, ltb, ltb-true, ltb-false, min}
+use Rattle.float.proofs.Words.{_≡_, refl, sym, ap, _∙_, Bool, true, false, _&&_, and-assoc, List, ℕ, _+_, _-_, _≤_, _<_, arith, eqb, length, getD, eq-eqb, []}
+use Rattle.float.proofs.Words.{_∷_, zero, suc, drop, length-take, getD-take, getD-drop, ne-eqb, eqb-true, eqb-false, ltb, ltb-true, ltb-false, min}
 use lib.Bits.{bitOr, or-add-and, and-le-l, and-le-r, or-zero-l}
-use Rattle.wire.specs.Bytes.{allZero, zeroFrom}
+use Rattle.float.proofs.Finite.{both-true}
+use Rattle.wire.specs.Bytes.{part, allZero, zeroFrom}
 use Rattle.wire.proofs.Parts.{part-more, part-past}
 
 -- ---- one byte, and none
@@ -27,6 +28,35 @@ zero-past s a e = by (ltb (length s) e) refl
         let l = ltb-false (length s) e h in
         let same : min e (length s) ≡ e = omega arith in
         rw same
+
+-- ---- byte by byte
+
+all-zero : (s : List ℕ) → allZero s ≡ true → (i : ℕ) → getD s i 0 ≡ 0
+unfolding allZero
+all-zero [] e i = refl
+all-zero (b ∷ s) e zero = eqb-true b 0 (both-true (eqb b 0) (allZero s) e .0)
+all-zero (b ∷ s) e (suc i) = all-zero s (both-true (eqb b 0) (allZero s) e .1) i
+
+each-zero : (s : List ℕ) → ((i : ℕ) → i < length s → getD s i 0 ≡ 0) → allZero s ≡ true
+unfolding allZero
+each-zero [] h = refl
+each-zero (b ∷ s) h = rw (h 0 (omega arith), each-zero s (λ i l. h (suc i) (omega arith)))
+
+-- the byte with number i of those from a up to e
+byte-of : (a e : ℕ) (s : List ℕ) (i : ℕ) → a + i < e → getD (part a (e - a) s) i 0 ≡ getD s (a + i) 0
+byte-of a e s i h = getD-take (e - a) (drop a s) i 0 (omega arith) ∙ getD-drop a s i 0
+
+pub zero-at : (a e : ℕ) (s : List ℕ) → zeroFrom a e s ≡ true → (i : ℕ) → (a ≤ i) × (i < e) → getD s i 0 ≡ 0
+zero-at a e s h i w =
+    let q : a + (i - a) ≡ i = omega (arith, w .0) in
+    ap (λ (k : ℕ). getD s k 0) (sym q) ∙ sym (byte-of a e s (i - a) (omega (arith, w .0, w .1))) ∙ all-zero (part a (e - a) s) h (i - a)
+
+pub zero-all : (a e : ℕ) (s : List ℕ) → ((i : ℕ) → (a ≤ i) × (i < e) → getD s i 0 ≡ 0) → zeroFrom a e s ≡ true
+zero-all a e s h =
+    each-zero (part a (e - a) s)
+    (λ i l. let m = length-take (e - a) (drop a s) in
+    let n : a + i < e = omega arith in
+    byte-of a e s i n ∙ h (a + i) (omega arith, n))
 
 -- ---- bit by bit
 
