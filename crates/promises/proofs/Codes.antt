@@ -1,18 +1,22 @@
 -- The record step asks the rows one after the other, in the table's order, and its tests decide their conditions.
 use Rattle.float.proofs.Words.{_≡_, refl, Bool, true, false, not, _&&_, List, ℕ, eqb, length, drop, Format}
 use Rattle.float.specs.Choice.{pick}
-use Rattle.matrix.specs.Rows.{on, WrongLength}
-use Rattle.matrix.proofs.Rows.{first-row, by-length}
+use Rattle.float.specs.Sign.{allFinite}
+use Rattle.matrix.specs.Rows.{on, Gives, WrongLength, NotFinite}
+use Rattle.matrix.proofs.Rows.{Decides, first-row, by-length}
+use Rattle.cholesky.specs.Pivots.{oneAtMostZero}
 use Rattle.cholesky.proofs.Rows.{later-rows}
-use Rattle.kinds.specs.Table.{kinds, kindNumbered, knownKind}
+use Rattle.kinds.specs.Table.{kindNumbered, knownKind}
 use Rattle.kinds.specs.Work.{refusedKind, usedFinite, workOf}
 use Rattle.kinds.specs.declared.work.Worked.{Worked}
 use Rattle.record.specs.Layout.{requestSize, answerSize}
 use Rattle.record.specs.Request.{kindOf, askedOf, reservedZero, unusedZero, formOf, judgedOf}
 use Rattle.record.specs.Answer.{Step, recordStepOf}
-use Rattle.promises.specs.Conditions.{NoneOf, NotZero, UsedNotFinite, pivotsOf, numbersOf, rows, Codes}
+use Rattle.promises.specs.Scope.{requestLength, answerLength, kindIn}
+use Rattle.promises.specs.Conditions.{NoKind, NotZero, usedIn, pivotsIn, madeIn, rows}
+use Rattle.promises.proofs.Scope.{request-length, answer-length, pivots-in, made-in}
 use Rattle.promises.proofs.Decided.{by-kind, by-zeros, by-used}
-use Rattle.promises.proofs.Kernels.{laterCode, kind-code}
+use Rattle.promises.proofs.Kernels.{kind-code}
 
 -- the tests of 3, 4 and 5, and then the kind's answer w
 asked : (f : Format) (w : Worked) (code : ℕ) (known zero used : Bool) → (known ≡ true → used ≡ true → w .code ≡ code)
@@ -34,20 +38,26 @@ module _ (f : Format) (s a : List ℕ) where
   zero = reservedZero s && unusedZero f (kindNumbered (kindOf s)) s
 
   abbrev later : ℕ
-  later = laterCode f (askedOf f s) (kindNumbered (kindOf s) .kernel)
+  later = pick (oneAtMostZero f (pivotsIn f s)) 6 (pick (allFinite (madeIn f s)) 0 7)
+
+  later-code : knownKind (kindOf s) ≡ true → usedFinite (askedOf f s) ≡ true → workOf f (askedOf f s) .code ≡ later
+  later-code = rw (pivots-in f s, made-in f s) (kind-code f (askedOf f s))
 
   pub judged-code : judgedOf f s .code ≡ pick (not (knownKind (kindOf s))) 3 (pick (not zero) 4 (pick (not (usedFinite (askedOf f s))) 5 later))
   unfolding judgedOf formOf
-  judged-code = asked f (workOf f (askedOf f s)) later (knownKind (kindOf s)) zero (usedFinite (askedOf f s)) (kind-code f (askedOf f s))
+  judged-code = asked f (workOf f (askedOf f s)) later (knownKind (kindOf s)) zero (usedFinite (askedOf f s)) later-code
 
   step-code : recordStepOf f s a .code
       ≡ pick (not (eqb (length a) (answerSize f))) 2 (pick (not (eqb (length s) (requestSize f))) 1 (judgedOf f s .code))
   unfolding recordStepOf
   step-code = sized _ _ _ (eqb (length a) (answerSize f)) (eqb (length s) (requestSize f))
 
-  pub codes : Codes f s a
+  -- a length that the scope writes out
+  by-size : (xs : List ℕ) (n m : ℕ) → n ≡ m → Decides (not (eqb (length xs) m)) (WrongLength xs n)
+  by-size xs n m e = rw e (by-length xs m)
+
+  pub codes : Gives (rows f s a) (recordStepOf f s a .code)
   codes =
-      let k = kindNumbered (kindOf s) in
       let r = rows f s a in
       let c6 = later in
       let c5 = pick (not (usedFinite (askedOf f s))) 5 c6 in
@@ -55,9 +65,9 @@ module _ (f : Format) (s a : List ℕ) where
       let c3 = pick (not (knownKind (kindOf s))) 3 c4 in
       let c1 = pick (not (eqb (length s) (requestSize f))) 1 c3 in
       rw (step-code, judged-code)
-      (first-row (not (eqb (length a) (answerSize f))) (on 2 (WrongLength a (answerSize f))) (drop 1 r) c1 (by-length a (answerSize f))
-      (first-row (not (eqb (length s) (requestSize f))) (on 1 (WrongLength s (requestSize f))) (drop 2 r) c3 (by-length s (requestSize f))
-      (first-row (not (knownKind (kindOf s))) (on 3 (NoneOf kinds (kindOf s))) (drop 3 r) c4 (by-kind (kindOf s))
-      (first-row (not zero) (on 4 (NotZero f k s)) (drop 4 r) c5 (by-zeros f k s)
-      (first-row (not (usedFinite (askedOf f s))) (on 5 (UsedNotFinite f k s)) (drop 5 r) c6 (by-used f s)
-      (later-rows f (pivotsOf f (k .kernel) (askedOf f s)) (numbersOf f (k .kernel) (askedOf f s))))))))
+      (first-row (not (eqb (length a) (answerSize f))) (on 2 (WrongLength a (answerLength f))) (drop 1 r) c1 (by-size a _ _ (answer-length f))
+      (first-row (not (eqb (length s) (requestSize f))) (on 1 (WrongLength s (requestLength f))) (drop 2 r) c3 (by-size s _ _ (request-length f))
+      (first-row (not (knownKind (kindOf s))) (on 3 (NoKind (kindIn s))) (drop 3 r) c4 (by-kind (kindOf s))
+      (first-row (not zero) (on 4 (NotZero f s)) (drop 4 r) c5 (by-zeros f s)
+      (first-row (not (usedFinite (askedOf f s))) (on 5 (NotFinite (usedIn f s))) (drop 5 r) c6 (by-used f s)
+      (later-rows f (pivotsIn f s) (madeIn f s)))))))

@@ -17,8 +17,9 @@ use Rattle.record.specs.Answer.{recordOf, Step, recordStepOf}
 use Rattle.record.proofs.Answers.{with-room, wrong-size, no-room, answer-size, code-in-place, refused-unmarked, refused-clear}
 use Rattle.record.proofs.answer.zanikory_answer_record.Reads as answer-record
 use Rattle.cholesky.specs.Pivots.{oneAtMostZero, refusedPivot}
-use Rattle.promises.specs.Conditions.{pivotsOf, numbersOf}
-use Rattle.promises.specs.Leaves.{Not, Leaves}
+use Rattle.promises.specs.Conditions.{pivotsIn, madeIn}
+use Rattle.promises.specs.Leaves.{Not, Turned, Leaves}
+use Rattle.promises.proofs.Scope.{answer-length, counts-turned}
 use Rattle.promises.proofs.Codes.{judged-code}
 use Rattle.promises.proofs.Pivots.{pivot-given}
 
@@ -46,13 +47,12 @@ module _ (f : Format) (s : List ℕ) where
 
   judged-past-sizes : PastSizes (judgedOf f s .code)
   judged-past-sizes =
-      let k = kindNumbered (kindOf s) .kernel in
       rw (judged-code f s [])
       (chosen PastSizes (not (knownKind (kindOf s))) 3 _ ((λ e. omega arith), (λ e. omega arith))
       (chosen PastSizes (not (reservedZero s && unusedZero f (kindNumbered (kindOf s)) s)) 4 _ ((λ e. omega arith), (λ e. omega arith))
       (chosen PastSizes (not (usedFinite (askedOf f s))) 5 _ ((λ e. omega arith), (λ e. omega arith))
-      (chosen PastSizes (oneAtMostZero f (pivotsOf f k (askedOf f s))) 6 _ ((λ e. omega arith), (λ e. omega arith))
-      (chosen PastSizes (allFinite (numbersOf f k (askedOf f s))) 0 7 ((λ e. omega arith), (λ e. omega arith)) ((λ e. omega arith), (λ e. omega arith)))))))
+      (chosen PastSizes (oneAtMostZero f (pivotsIn f s)) 6 _ ((λ e. omega arith), (λ e. omega arith))
+      (chosen PastSizes (allFinite (madeIn f s)) 0 7 ((λ e. omega arith), (λ e. omega arith)) ((λ e. omega arith), (λ e. omega arith)))))))
 
   judged-uncounted : Uncounted (kindNumbered (kindOf s) .counts) (judgedOf f s)
   unfolding judgedOf
@@ -76,19 +76,19 @@ module _ (f : Format) (s a : List ℕ) (room : length a ≡ answerSize f) where
 
   -- what holds of the heads of both answers holds of all that is left
   headed : (event : Not 1 code → take codeAt left ≡ take codeAt s) (unread : code ≡ 1 → take codeAt left ≡ replicate codeAt 0) → Not 2 code
-      → (pivot : code ≡ 6 → getD left countAt 0 ≡ refusedPivot f 1 (pivotsOf f (kindNumbered (kindOf s) .kernel) (askedOf f s)))
-      → (Not 6 code → ((code ≡ 0) × (kindNumbered (kindOf s) .counts ≡ true) → ⊥) → getD left countAt 0 ≡ 0)
+      → (pivot : code ≡ 6 → getD left countAt 0 ≡ refusedPivot f 1 (pivotsIn f s))
+      → (Not 6 code → ((code ≡ 0) × Turned (kindOf s) → ⊥) → getD left countAt 0 ≡ 0)
       → Leaves f s a code left
   headed event unread n pivot uncounted = record {
     untouched = (λ e. absurd (n e));
-    size = (λ _. answer-size f s a room);
+    size = (λ _. answer-size f s a room ∙ sym (answer-length f));
     coded = (λ _. code-in-place f s a room);
     event = (λ _. event);
     unread = unread;
     pivot = pivot;
     uncounted = (λ _. uncounted);
     unmarked = (λ _ k. mark-of ∙ ap (λ (l : List ℕ). getD l 0 0) (refused-unmarked f s a room k));
-    clear = (λ _. refused-clear f s a room);
+    clear = (λ _ k. rw (answer-length f) (refused-clear f s a room k));
   }
 
 -- ---- each way of the step
@@ -104,7 +104,7 @@ answered f s a room size =
     (λ k. absurd (judged-past-sizes f s .0 (sym (ap (λ (t : Step). t .code) e) ∙ k)))
     (λ k. judged-past-sizes f s .1 (sym (ap (λ (t : Step). t .code) e) ∙ k))
     (λ k. count ∙ pivot-given f s (sym (ap (λ (t : Step). t .code) e) ∙ k))
-    (λ k c. count ∙ judged-uncounted f s (λ q. k (ap (λ (t : Step). t .code) e ∙ q)) (λ q. c (ap (λ (t : Step). t .code) e ∙ q .0, q .1)))
+    (λ k c. count ∙ judged-uncounted f s (λ q. k (ap (λ (t : Step). t .code) e ∙ q)) (λ q. c (ap (λ (t : Step). t .code) e ∙ q .0, counts-turned (kindOf s) (q .1))))
 
 unread : (f : Format) (s a : List ℕ) → length a ≡ answerSize f → (length s ≡ requestSize f → ⊥)
     → Leaves f s a (recordStepOf f s a .code) (recordStepOf f s a .answer)

@@ -1,5 +1,6 @@
 pub mod Examples
 pub mod Kernels
+pub mod Scope
 pub mod Decided
 pub mod Codes
 pub mod Signs

@@ -16,7 +16,8 @@ use Rattle.kinds.specs.declared.work.Worked.{Worked}
 use Rattle.kinds.proofs.Rows.{each-kind}
 use Rattle.kinds.proofs.Works.{factor-code}
 use Rattle.record.specs.Request.{kindOf, askedOf, reservedZero, unusedZero, formOf, judgedOf}
-use Rattle.promises.specs.Conditions.{pivotsOf, numbersOf, PivotGiven}
+use Rattle.promises.specs.Conditions.{pivotsOf, numbersOf, pivotsIn}
+use Rattle.promises.proofs.Scope.{pivots-in}
 use Rattle.promises.proofs.Kernels.{laterCode, kind-code}
 
 -- with 6 a record of a factor has the factor's number
@@ -61,15 +62,16 @@ form-not-six true true e = omega arith
 form-not-six true false e = omega arith
 form-not-six false z e = omega arith
 
-pub pivot-given : (f : Format) (s : List ℕ) → PivotGiven f s
+pub pivot-given : (f : Format) (s : List ℕ) → judgedOf f s .code ≡ 6 → judgedOf f s .count ≡ refusedPivot f 1 (pivotsIn f s)
 unfolding judgedOf formOf
 pivot-given f s =
     let a = askedOf f s in
     let kind = kindNumbered (kindOf s) in
     let zero = reservedZero s && unusedZero f kind s in
     let P : Worked → Type 0 = λ (w : Worked). w .code ≡ 6 → w .count ≡ refusedPivot f 1 (pivotsOf f (kind .kernel) a) in
-    by-eqb P (formOf f s) 0 (pick (usedFinite a) (workOf f a) (refusedKind f 5 0)) (refusedKind f (formOf f s) 0)
+    rw (pivots-in f s)
+    (by-eqb P (formOf f s) 0 (pick (usedFinite a) (workOf f a) (refusedKind f 5 0)) (refusedKind f (formOf f s) 0)
     (λ e. by-test P (usedFinite a) (workOf f a) (refusedKind f 5 0)
     (λ u. work-hands f a (kindOf s) (kind-code f a (known-form (knownKind (kindOf s)) zero e) u))
     (λ _ c. absurd (omega arith)))
-    (λ _ c. absurd (form-not-six (knownKind (kindOf s)) zero c))
+    (λ _ c. absurd (form-not-six (knownKind (kindOf s)) zero c)))

@@ -1,58 +1,48 @@
--- The scope's table of the numbers that answer, for a record: each row's condition as it is read off the bytes, in the order of the rows. Definitions only.
+-- The scope's table of the numbers that answer, for a record: each row's condition as it is read off the bytes, in the order of the rows. The record step's own
+-- definitions are not cited. Definitions only.
 use mathlib.Core.Path.{_≡_}
-use mathlib.Core.Bool.{true}
 use mathlib.Core.List.{List, [], _∷_, _++_}
 use mathlib.Core.Logic.{_⊎_}
-use Prim.Native.Nat.{ℕ, _≤_, _<_}
+use Prim.Native.Nat.{ℕ, _+_, _*_, _≤_, _<_}
 use lib.ListN.{getD}
 use lib.Ieee.{Float, Format}
-use Rattle.float.specs.Sign.{finite}
 use Rattle.matrix.specs.Places.{zeros}
-use Rattle.matrix.specs.Rows.{Row, on, Gives, WrongLength, NotFinite, AtMostZero}
+use Rattle.matrix.specs.Rows.{Row, on, WrongLength, NotFinite, AtMostZero}
 use Rattle.cholesky.specs.Factor.{steps2Of, steps3Of}
-use Rattle.cholesky.specs.Pivots.{pivots2Of, pivots3Of, refusedPivot}
+use Rattle.cholesky.specs.Pivots.{pivots2Of, pivots3Of}
 use Rattle.cholesky.specs.Solve.{solution2Of, solution3Of}
 use Rattle.eigen.specs.Eigen2x2 as eigen2
 use Rattle.eigen.specs.Eigen3x3 as eigen3
 use Rattle.svd.specs.Svd2x2 as svd2
 use Rattle.svd.specs.Svd3x3 as svd3
-use Rattle.kinds.specs.Table.{kinds, kindNumbered}
 use Rattle.kinds.specs.Work.{firstOf}
-use Rattle.kinds.specs.declared.table.Kind.{Kind}
 use Rattle.kinds.specs.declared.table.Kernel.{Kernel}
 use Rattle.kinds.specs.declared.table.Kernel.the-variants.{Eigen2x2, Eigen3x3, Svd2x2, Svd3x3, Factor2x2, Factor3x3, Solve2x2, Solve3x3, Unknown}
 use Rattle.kinds.specs.declared.work.Asked.{Asked}
-use Rattle.wire.specs.Bytes.{placeOf, numberAt}
-use Rattle.record.specs.Layout.{wayAt, nineAt, threeAt, requestSize, answerSize}
-use Rattle.record.specs.Request.{kindOf, askedOf, judgedOf}
-use Rattle.record.specs.Answer.{recordStepOf}
+use Rattle.promises.specs.Scope.{numberLength, requestLength, answerLength, threeBegin, usedNine, usedThree, kernelNumbered, kindIn, numbersIn, given}
 
--- ---- 3: the number of a kind is that of no row of the table
+-- ---- 3: the kind is none of 1 to 8
 
-abbrev pub NoneOf : List Kind → ℕ → Type 0
-NoneOf [] n = Unit {0}
-NoneOf (k ∷ ks) n = (n ≡ k .number → ⊥) × NoneOf ks n
+abbrev pub NoKind : ℕ → Type 0
+NoKind k = (1 ≤ k) × (k ≤ 8) → ⊥
 
 -- ---- 4: bytes that are to be zero, the reserved ones and those of the numbers that the kind does not use
 
 abbrev pub Between : ℕ → ℕ → ℕ → Type 0
 Between a e i = (a ≤ i) × (i < e)
 
-abbrev pub Unused : Format → Kind → ℕ → Type 0
+abbrev pub Unused : Format → ℕ → ℕ → Type 0
 Unused f k i =
-    Between wayAt nineAt i ⊎ (Between (placeOf f nineAt (k .nine)) (threeAt f) i ⊎ Between (placeOf f (threeAt f) (k .three)) (requestSize f) i)
+    Between 5 8 i
+    ⊎ (Between (8 + numberLength f * usedNine k) (threeBegin f) i ⊎ Between (threeBegin f + numberLength f * usedThree k) (requestLength f) i)
 
-abbrev pub NotZero : Format → Kind → List ℕ → Type 0
-NotZero f k s = ((i : ℕ) → Unused f k i → getD s i 0 ≡ 0) → ⊥
+abbrev pub NotZero : Format → List ℕ → Type 0
+NotZero f s = ((i : ℕ) → Unused f (kindIn s) i → getD s i 0 ≡ 0) → ⊥
 
--- ---- 5: a number that the kind uses is NaN or infinite
+-- ---- 5: the numbers that the kind uses
 
--- the first n numbers from byte a on are finite
-abbrev pub FiniteFrom : Format → ℕ → ℕ → List ℕ → Type 0
-FiniteFrom f a n s = (i : ℕ) → i < n → finite (numberAt f (placeOf f a i) s) ≡ true
-
-abbrev pub UsedNotFinite : Format → Kind → List ℕ → Type 0
-UsedNotFinite f k s = FiniteFrom f nineAt (k .nine) s × FiniteFrom f (threeAt f) (k .three) s → ⊥
+abbrev pub usedIn : Format → List ℕ → List Float
+usedIn f s = numbersIn f 8 (usedNine (kindIn s)) s ++ numbersIn f (threeBegin f) (usedThree (kindIn s)) s
 
 -- ---- 6: the pivots of each kernel. One counts only if those before it are above zero; if one of them is not, that is a 6 already.
 
@@ -88,30 +78,26 @@ numbersOf f Unknown a = []
 
 -- ---- the rows
 
+abbrev pub pivotsIn : Format → List ℕ → List Float
+pivotsIn f s = pivotsOf f (kernelNumbered (kindIn s)) (given f s)
+
+abbrev pub madeIn : Format → List ℕ → List Float
+madeIn f s = numbersOf f (kernelNumbered (kindIn s)) (given f s)
+
 abbrev pub rows : Format → List ℕ → List ℕ → List Row
 rows f request answer =
-    let k = kindNumbered (kindOf request) in
     -- the output slice has a wrong length
-    on 2 (WrongLength answer (answerSize f))
+    on 2 (WrongLength answer (answerLength f))
     -- the input slice has a wrong length
-    ∷ on 1 (WrongLength request (requestSize f))
+    ∷ on 1 (WrongLength request (requestLength f))
     -- the kind byte is the number of no kind
-    ∷ on 3 (NoneOf kinds (kindOf request))
+    ∷ on 3 (NoKind (kindIn request))
     -- a reserved byte or an unused number is not all zero bits
-    ∷ on 4 (NotZero f k request)
+    ∷ on 4 (NotZero f request)
     -- a used input number is NaN or infinite
-    ∷ on 5 (UsedNotFinite f k request)
+    ∷ on 5 (NotFinite (usedIn f request))
     -- a pivot is at most zero
-    ∷ on 6 (AtMostZero f (pivotsOf f (k .kernel) (askedOf f request)))
+    ∷ on 6 (AtMostZero f (pivotsIn f request))
     -- a number of the answer, the worked matrix included, is NaN or infinite
-    ∷ on 7 (NotFinite (numbersOf f (k .kernel) (askedOf f request)))
+    ∷ on 7 (NotFinite (madeIn f request))
     ∷ []
-
--- the code that is handed back is that of the first row that holds, and 0 where none does
-abbrev pub Codes : Format → List ℕ → List ℕ → Type 0
-Codes f request answer = Gives (rows f request answer) (recordStepOf f request answer .code)
-
--- with 6 the answer has the number of the first pivot that is at most zero; `recordOf` puts it in byte 6
-abbrev pub PivotGiven : Format → List ℕ → Type 0
-PivotGiven f request =
-    judgedOf f request .code ≡ 6 → judgedOf f request .count ≡ refusedPivot f 1 (pivotsOf f (kindNumbered (kindOf request) .kernel) (askedOf f request))

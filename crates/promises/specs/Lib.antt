@@ -1,4 +1,5 @@
 pub mod Examples
+pub mod Scope
 pub mod Conditions
 pub mod Wiring
 pub mod Vouched
