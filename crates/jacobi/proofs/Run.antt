@@ -1,5 +1,7 @@
 -- The laws of `run`, for any step and any test: each follows the rounds one by one.
-use Rattle.float.proofs.Words.{_≡_, refl, sym, ap, _∙_, subst⁻¹, Bool, true, false, _⊎_, inl, inr, ℕ, zero, suc, _+_, _-_, _≤_, _<_, arith}
+use Rattle.float.proofs.Words.{_≡_, refl, sym, ap, _∙_, subst⁻¹, Bool, true, false, false≢true, _⊎_, inl, inr, ℕ, zero, suc, _+_, _-_, _≤_, _<_, le-antisymm}
+use Rattle.float.proofs.Words.{arith}
+use Rattle.float.proofs.Choice.{either}
 use Rattle.jacobi.specs.Run.{runFrom, run, after, Ran}
 
 module _ {S : Type 0} (step : S → S) (done : S → Bool) where
@@ -61,6 +63,20 @@ module _ {S : Type 0} (step : S → S) (done : S → Bool) where
   pub ran : (k : ℕ) (s : S) → (n : ℕ) × Ran step done k s (run step done k s) n
   unfolding run
   ran k s = (rounds k (done s) s, ran-from k (done s) s refl)
+
+  -- ---- there is one such run: a shorter one would have gone on, and a longer one would have stopped
+
+  not-sooner : {k n m : ℕ} {s r q : S} → Ran step done k s r n → Ran step done k s q m → n < m → ⊥
+  not-sooner {k} {n} {m} {s} {r} x y l = by (x .ended)
+    where
+      by : (n ≡ k) ⊎ (done r ≡ true) → ⊥
+      by (inl e) = omega (arith, y .within)
+      by (inr e) = false≢true (sym (y .earlier n l) ∙ ap done (sym (x .stands)) ∙ e)
+
+  pub ran-one : {k n m : ℕ} {s r q : S} → Ran step done k s r n → Ran step done k s q m → (n ≡ m) × (r ≡ q)
+  ran-one {k} {n} {m} {s} x y =
+      let e : n ≡ m = le-antisymm (either m n (λ l. absurd (not-sooner y x l)) (λ l. l)) (either n m (λ l. absurd (not-sooner x y l)) (λ l. l)) in
+      (e, x .stands ∙ ap (λ (j : ℕ). after step done j s) e ∙ sym (y .stands))
 
   -- ---- a number that every step raises by one tells how many were made
 

@@ -22,6 +22,17 @@ pub last-row : (t : Bool) (r : Row) (rs : List Row) (k : ℕ) → Decides (not t
 last-row true r rs k d g = inr (d .1 refl, g)
 last-row false r rs k d g = inl (d .0 refl, refl)
 
+-- ---- going down the rows: a row's condition X and number n, and what the rows behind it say, R
+
+pub taken-row : {X R : Type 0} {k n : ℕ} → (X × (k ≡ n)) ⊎ ((X → ⊥) × R) → X → k ≡ n
+taken-row {X} {R} {k} {n} g h = ⊎-elim (λ (x : X × (k ≡ n)). x .1) (λ (x : (X → ⊥) × R). absurd (x .0 h)) g
+
+pub passed-row : {X R : Type 0} {k n : ℕ} → (X × (k ≡ n)) ⊎ ((X → ⊥) × R) → (X → ⊥) → R
+passed-row {X} {R} {k} {n} g h = ⊎-elim (λ (x : X × (k ≡ n)). absurd (h (x .0))) (λ (x : (X → ⊥) × R). x .1) g
+
+pub not-given : {X R : Type 0} {k n : ℕ} → (X × (k ≡ n)) ⊎ ((X → ⊥) × R) → (k ≡ n → ⊥) → (X → ⊥) × R
+not-given {X} {R} {k} {n} g h = ⊎-elim (λ (x : X × (k ≡ n)). absurd (h (x .1))) (λ (x : (X → ⊥) × R). x) g
+
 -- ---- the rows leave one number
 
 pub one-number : (rs : List Row) (k m : ℕ) → Gives rs k → Gives rs m → k ≡ m

@@ -48,15 +48,6 @@ unfolding allFinite
 table-finite zero g h = refl
 table-finite (suc n) g h = rw (h 0 (omega arith), table-finite n (λ (i : ℕ). g (suc i)) (λ i l. h (suc i) (omega arith)))
 
--- the first n numbers of a table of m
-pub firsts-finite : (m n : ℕ) (g : ℕ → Float) → n ≤ m → allFinite (tabulate n (at (tabulate m g))) ≡ true → (i : ℕ) → i < n → finite (g i) ≡ true
-firsts-finite m n g l h i b =
-    let t : allFinite (tabulate n g) ≡ true = ap allFinite (sym (first-tabulate n m g l)) ∙ h in
-    ap finite (sym (at-tabulate n g i b)) ∙ at-finite (tabulate n g) t i (rw (length-tabulate n g) b)
-
-pub finite-firsts : (m n : ℕ) (g : ℕ → Float) → n ≤ m → ((i : ℕ) → i < n → finite (g i) ≡ true) → allFinite (tabulate n (at (tabulate m g))) ≡ true
-finite-firsts m n g l h = ap allFinite (first-tabulate n m g l) ∙ table-finite n g h
-
 pub zeros-finite : (f : Format) (n : ℕ) → allFinite (zeros f n) ≡ true
 unfolding allFinite
 zeros-finite f zero = refl

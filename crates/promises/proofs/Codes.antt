@@ -1,5 +1,7 @@
 -- The record step asks the rows one after the other, in the table's order, and its tests decide their conditions.
 use Rattle.float.proofs.Words.{_≡_, refl, Bool, true, false, not, _&&_, List, ℕ, eqb, length, drop, Format}
+use contract.Lifetimes.{Lfts}
+use Rattle.float.specs.Width.{F}
 use Rattle.float.specs.Choice.{pick}
 use Rattle.float.specs.Sign.{allFinite}
 use Rattle.matrix.specs.Rows.{on, Gives, WrongLength, NotFinite}
@@ -12,6 +14,7 @@ use Rattle.kinds.specs.declared.work.Worked.{Worked}
 use Rattle.record.specs.Layout.{requestSize, answerSize}
 use Rattle.record.specs.Request.{kindOf, askedOf, reservedZero, unusedZero, formOf, judgedOf}
 use Rattle.record.specs.Answer.{Step, recordStepOf}
+use Rattle.record.proofs.answer.zanikory_answer_record.Reads as answer-record
 use Rattle.promises.specs.Scope.{requestLength, answerLength, kindIn}
 use Rattle.promises.specs.Conditions.{NoKind, NotZero, usedIn, pivotsIn, madeIn, rows}
 use Rattle.promises.proofs.Scope.{request-length, answer-length, pivots-in, made-in}
@@ -71,3 +74,8 @@ module _ (f : Format) (s a : List ℕ) where
       (first-row (not zero) (on 4 (NotZero f s)) (drop 4 r) c5 (by-zeros f s)
       (first-row (not (usedFinite (askedOf f s))) (on 5 (NotFinite (usedIn f s))) (drop 5 r) c6 (by-used f s)
       (later-rows f (pivotsIn f s) (madeIn f s)))))))
+
+-- ---- any answer within the promise of the record step
+
+pub codes-by-calls : (κs : Lfts 2) (a : _) (r : ℕ) (x : _) → answer-record.Post κs a r x → Gives (rows F (a .0 .now) (a .1 .0 .now)) r
+codes-by-calls κs a r x p = rw (p .0) (codes F (a .0 .now) (a .1 .0 .now))

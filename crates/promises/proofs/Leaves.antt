@@ -1,6 +1,7 @@
 -- What is left is the slice as it was, the answer to a request of the wrong size, or the answer to a request: each is looked at byte by byte.
 use Rattle.float.proofs.Words.{_≡_, refl, sym, ap, _∙_, true, not, _&&_, List, [], _∷_, _++_, append-assoc, ℕ, _+_, arith, eqb, length, getD, take, drop}
-use Rattle.float.proofs.Words.{replicate, length-append, length-take-le, take-suc, take-at, getD-drop, getD-append-add, Format}
+use Rattle.float.proofs.Words.{_≤_, take-append-drop, drop-cons, replicate, length-append, length-take-le, take-suc, take-at, getD-drop, getD-append-add}
+use Rattle.float.proofs.Words.{Format}
 use contract.Lifetimes.{Lfts}
 use Rattle.float.specs.Width.{F}
 use Rattle.float.specs.Choice.{pick}
@@ -19,6 +20,7 @@ use Rattle.record.proofs.answer.zanikory_answer_record.Reads as answer-record
 use Rattle.cholesky.specs.Pivots.{oneAtMostZero, refusedPivot}
 use Rattle.promises.specs.Conditions.{pivotsIn, madeIn}
 use Rattle.promises.specs.Leaves.{Not, Turned, Leaves}
+use Rattle.promises.specs.Scope.{answerLength}
 use Rattle.promises.proofs.Scope.{answer-length, counts-turned}
 use Rattle.promises.proofs.Codes.{judged-code}
 use Rattle.promises.proofs.Pivots.{pivot-given}
@@ -97,14 +99,15 @@ answered : (f : Format) (s a : List ℕ) → length a ≡ answerSize f → lengt
     → Leaves f s a (recordStepOf f s a .code) (recordStepOf f s a .answer)
 answered f s a room size =
     let e = with-room f s a room size in
+    let same = ap (λ (t : Step). t .code) e in
     let event-size = length-take-le eventBytes s (omega arith) in
     let count : getD (recordStepOf f s a .answer) countAt 0 ≡ judgedOf f s .count =
     ap (λ (t : Step). getD (t .answer) countAt 0) e ∙ record-count f (take eventBytes s) (kindOf s) (judgedOf f s) event-size in
     headed f s a room (λ _. ap (λ (t : Step). take codeAt (t .answer)) e ∙ record-event f s (judgedOf f s) size)
-    (λ k. absurd (judged-past-sizes f s .0 (sym (ap (λ (t : Step). t .code) e) ∙ k)))
-    (λ k. judged-past-sizes f s .1 (sym (ap (λ (t : Step). t .code) e) ∙ k))
-    (λ k. count ∙ pivot-given f s (sym (ap (λ (t : Step). t .code) e) ∙ k))
-    (λ k c. count ∙ judged-uncounted f s (λ q. k (ap (λ (t : Step). t .code) e ∙ q)) (λ q. c (ap (λ (t : Step). t .code) e ∙ q .0, counts-turned (kindOf s) (q .1))))
+    (λ k. absurd (judged-past-sizes f s .0 (sym same ∙ k)))
+    (λ k. judged-past-sizes f s .1 (sym same ∙ k))
+    (λ k. count ∙ pivot-given f s (sym same ∙ k))
+    (λ k c. count ∙ judged-uncounted f s (λ q. k (same ∙ q)) (λ q. c (same ∙ q .0, counts-turned (kindOf s) (q .1))))
 
 unread : (f : Format) (s a : List ℕ) → length a ≡ answerSize f → (length s ≡ requestSize f → ⊥)
     → Leaves f s a (recordStepOf f s a .code) (recordStepOf f s a .answer)
@@ -137,6 +140,33 @@ leaves f s a =
     (λ room. by-eqb {A = ℕ} (λ _. Leaves f s a (recordStepOf f s a .code) (recordStepOf f s a .answer)) (length s) (requestSize f) 0 0
     (answered f s a room) (unread f s a room))
     (untouched f s a)
+
+-- ---- a refusal leaves nothing open: every byte is said
+
+-- a list of eight places or more, with three of them by themselves
+head-of : (l : List ℕ) → 8 ≤ length l → l ≡ take 5 l ++ (getD l 5 0 ∷ getD l 6 0 ∷ getD l 7 0 ∷ drop 8 l)
+head-of l h =
+    sym (take-append-drop 5 l)
+    ∙ ap (λ (t : List ℕ). take 5 l ++ t)
+    (drop-cons l 5 0 (omega arith) ∙ ap (λ (t : List ℕ). getD l 5 0 ∷ t)
+    (drop-cons l 6 0 (omega arith) ∙ ap (λ (t : List ℕ). getD l 6 0 ∷ t) (drop-cons l 7 0 (omega arith))))
+
+more-than-head : (f : Format) → 8 ≤ answerLength f
+more-than-head f = rw (answer-length f) (omega arith)
+
+pub one-refusal : (f : Format) (s a : List ℕ) (c : ℕ) (l m : List ℕ) → Leaves f s a c l → Leaves f s a c m → (c ≡ 0 → ⊥) → l ≡ m
+one-refusal f s a c l m x y n =
+    by-eqb {A = ℕ} (λ _. l ≡ m) c 2 0 0 (λ e. x .untouched e ∙ sym (y .untouched e))
+    (λ k.
+    let event : take 5 l ≡ take 5 m =
+    by-eqb {A = ℕ} (λ _. take 5 l ≡ take 5 m) c 1 0 0 (λ e. x .unread e ∙ sym (y .unread e)) (λ o. x .event k o ∙ sym (y .event k o)) in
+    let count : getD l 6 0 ≡ getD m 6 0 =
+    by-eqb {A = ℕ} (λ _. getD l 6 0 ≡ getD m 6 0) c 6 0 0 (λ e. x .pivot e ∙ sym (y .pivot e))
+    (λ o. x .uncounted k o (λ q. n (q .0)) ∙ sym (y .uncounted k o (λ q. n (q .0)))) in
+    let enough = more-than-head f in
+    head-of l (omega (arith, x .size k))
+    ∙ (rw (event, x .coded k ∙ sym (y .coded k), count, x .unmarked k n ∙ sym (y .unmarked k n), x .clear k n ∙ sym (y .clear k n)))
+    ∙ sym (head-of m (omega (arith, y .size k))))
 
 -- ---- any answer within the promise of the record step
 

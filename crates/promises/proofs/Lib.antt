@@ -3,6 +3,7 @@ pub mod Kernels
 pub mod Scope
 pub mod Decided
 pub mod Codes
+pub mod Told
 pub mod Signs
 pub mod Columns
 pub mod Wiring

@@ -1,5 +1,5 @@
 -- Every number of a record is finite: each kernel owes that of its answer with code 0, and what is refused and the places that are left over hold +0.
-use Rattle.float.proofs.Words.{_≡_, refl, true, List, ℕ, arith, eqb, ltb, length, Float, Format}
+use Rattle.float.proofs.Words.{_≡_, refl, true, List, ℕ, _<_, arith, eqb, ltb, length, Float, Format}
 use Rattle.float.specs.Choice.{pick}
 use Rattle.float.specs.Constants.{zeroF}
 use Rattle.float.specs.Sign.{finite, allFinite}
@@ -22,6 +22,7 @@ use Rattle.kinds.specs.declared.table.Kind.{Kind}
 use Rattle.kinds.specs.declared.work.Asked.{Asked}
 use Rattle.kinds.proofs.Rows.{each-kind}
 use Rattle.record.specs.Request.{askedOf, formOf, judgedOf}
+use Rattle.record.proofs.Answers.{judged-sized}
 use Rattle.promises.specs.Vouched.{Vouched}
 
 -- ---- numbers in their places
@@ -76,3 +77,15 @@ vouched f request =
     let a = askedOf f request in
     chosen Vouched (eqb (formOf f request) 0) (pick (usedFinite a) (workOf f a) (refusedKind f 5 0)) (refusedKind f (formOf f request) 0)
     (chosen Vouched (usedFinite a) (workOf f a) (refusedKind f 5 0) (work-vouched f a) (refused-vouched f 5 0)) (refused-vouched f (formOf f request) 0)
+
+-- number by number
+pub vouched-each : (f : Format) (request : List ℕ) → let w = judgedOf f request in
+    (i : ℕ) → (i < 3 → finite (at (w .values) i) ≡ true) × (i < 9 → finite (at (w .left) i) ≡ true) × (i < 9 → finite (at (w .right) i) ≡ true)
+vouched-each f request i =
+    let w = judgedOf f request in
+    let h = vouched f request in
+    let n = judged-sized f request in (
+      (λ l. at-finite (w .values) (h .0) i (omega (arith, n .0))),
+      (λ l. at-finite (w .left) (h .1) i (omega (arith, n .1))),
+      (λ l. at-finite (w .right) (h .2) i (omega (arith, n .2))),
+    )

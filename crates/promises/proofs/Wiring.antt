@@ -21,8 +21,8 @@ use Rattle.wire.specs.Bytes.{numberBytes, placeOf, wordOf, part, numberAt, allZ
 use Rattle.wire.proofs.Words.{word-below}
 use Rattle.record.specs.Layout.{nineAt, threeAt, requestSize, codeAt, answerSize}
 use Rattle.record.specs.Request.{kindOf, askedOf, reservedZero, formOf, judgedOf}
-use Rattle.record.specs.Answer.{recordOf, answeredOf}
-use Rattle.record.proofs.Answers.{code-in-place}
+use Rattle.record.specs.Answer.{recordOf, answeredOf, Step}
+use Rattle.record.proofs.Answers.{with-room, code-in-place}
 use Rattle.record.proofs.Streams.{stepped}
 use Rattle.record.proofs.answer.zanikory_answer_record.Reads as answer-record
 use Rattle.promises.specs.Wiring.{flippedNumber, flippedNumbers, flipped, Bytes, ReversedRecords}
@@ -270,3 +270,19 @@ reversed-calls κs a b r q x y p w u v n k c e =
       w .1 ∙ o,
       h,
     )
+
+-- ---- the same in bytes of the two answers: in doubles the three columns stand from bytes 32, 56 and 80 on
+
+pub reversed-bytes : (κs : Lfts 2) (a b : _) (r q : ℕ) (x y : _) → answer-record.Post κs a r x → answer-record.Post κs b q y
+    → length (a .1 .0 .now) ≡ 176 → length (b .1 .0 .now) ≡ 176
+    → length (a .0 .now) ≡ 104 → kindOf (a .0 .now) ≡ 2 → Bytes (a .0 .now) → b .0 .now ≡ flipped F (a .0 .now)
+    → let this = x .1 .0 .now in let that = y .1 .0 .now in
+    (r ≡ q) × (getD this 6 0 ≡ getD that 6 0) × (getD this 7 0 ≡ getD that 7 0)
+    × (r ≡ 0 → AllDiffer (judgedOf F (a .0 .now) .values)
+    → (part 32 24 this ≡ part 80 24 that) × (part 56 24 this ≡ part 56 24 that) × (part 80 24 this ≡ part 32 24 that))
+reversed-bytes κs a b r q x y p w u v n k c e =
+    let h = reversed-calls κs a b r q x y p w u v n k c e in
+    let g = h .3 in
+    let code : r ≡ 0 → judgedOf F (a .0 .now) .code ≡ 0 =
+    λ z. sym (ap (λ (t : Step). t .code) (with-room F (a .0 .now) (a .1 .0 .now) u n)) ∙ sym (p .0) ∙ z in
+    rw (h .1, h .2) (h .0, g .counts, g .marks, (λ z d. g .bytes (code z) d))

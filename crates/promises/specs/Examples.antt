@@ -1,4 +1,4 @@
--- The scope's examples P1 to P14 as rows of one table: what is asked, the numbers given, and all that is answered. Definitions only.
+-- The scope's examples P1 to P14 and its whole example as rows of one table: what is asked, and all that is answered. Definitions only.
 -- A number is its bit pattern. Zeros that fill up the places of a record are left out at the end of a list.
 use mathlib.Core.List.{List, [], _∷_, _++_, map}
 use Prim.Native.Nat.{ℕ, _+_, _-_, _*_, _^_}
@@ -8,30 +8,29 @@ use Rattle.float.specs.Root.{rootOf}
 use Rattle.cholesky.specs.Factor.{FactorAnswer, factor2Of, factor3Of}
 use Rattle.kinds.specs.Work.{workOf}
 use Rattle.kinds.specs.declared.work.Worked.{Worked}
+use Rattle.record.specs.Answer.{Step, recordStepOf}
 
 -- ---- a row
 
--- the root, a kind of request, or the factor of size 2 or 3 by itself
+-- the root of a number; a kind of request with the nine numbers and the three; the factor of size 2 or 3 by itself; a whole request, byte by byte
 pub data Call : Type 0 where
-  root : Call
-  kind : ℕ → Call
-  factor2 : Call
-  factor3 : Call
+  root : ℕ → Call
+  kind : ℕ → List ℕ → List ℕ → Call
+  factor2 : List ℕ → Call
+  factor3 : List ℕ → Call
+  whole : List ℕ → Call
 
--- as a record has it: code, byte 6, byte 7, values, left, right
-pub record Shown : Type 0 where
-  pub code : ℕ
-  pub six : ℕ
-  pub seven : ℕ
-  pub values : List ℕ
-  pub left : List ℕ
-  pub right : List ℕ
+-- code, byte 6, byte 7, values, left and right, as a record has them; or the code and the bytes of the answer
+pub data Shown : Type 0 where
+  numbers : ℕ → ℕ → ℕ → List ℕ → List ℕ → List ℕ → Shown
+  slice : ℕ → List ℕ → Shown
 
 pub record Row : Type 0 where
   pub asked : Call
-  pub nine : List ℕ
-  pub three : List ℕ
   pub answer : Shown
+
+abbrev pub row : Call → Shown → Row
+row asked answer = record { asked = asked; answer = answer }
 
 -- ---- what the definitions answer
 
@@ -42,26 +41,24 @@ abbrev pub patterns : List Float → List ℕ
 patterns = map (toBits binary64)
 
 abbrev pub ofKind : Worked → Shown
-ofKind w = record { code = w .code; six = w .count; seven = w .settled; values = patterns (w .values); left = patterns (w .left); right = patterns (w .right) }
+ofKind w = numbers (w .code) (w .count) (w .settled) (patterns (w .values)) (patterns (w .left)) (patterns (w .right))
 
 abbrev pub ofFactor : FactorAnswer → Shown
-ofFactor r = record { code = r .code; six = r .pivot; seven = 0; values = []; left = patterns (r .factor); right = [] }
+ofFactor r = numbers (r .code) (r .pivot) 0 [] (patterns (r .factor)) []
 
-abbrev pub ofRoot : List Float → Shown
-ofRoot xs = record { code = 0; six = 0; seven = 0; values = patterns (map (rootOf binary64) xs); left = []; right = [] }
+abbrev pub ofStep : Step → Shown
+ofStep t = slice (t .code) (t .answer)
 
--- the old factor of the last two: it shows what is not written
+-- the old factor, which shows what is not written
 abbrev pub old : ℕ → List ℕ
 old n = replicate n 0x4008000000000000
 
-abbrev pub answerTo : Call → List ℕ → List ℕ → Shown
-answerTo root nine three = ofRoot (floats nine)
-answerTo (kind k) nine three = ofKind (workOf binary64 (record { kind = k; way = 0; nine = floats nine; three = floats three }))
-answerTo factor2 nine three = ofFactor (factor2Of binary64 (floats (old 3)) (floats nine))
-answerTo factor3 nine three = ofFactor (factor3Of binary64 (floats (old 6)) (floats nine))
-
-abbrev pub answerOf : Row → Shown
-answerOf r = answerTo (r .asked) (r .nine) (r .three)
+abbrev pub answerTo : Call → Shown
+answerTo (root x) = numbers 0 0 0 (patterns (map (rootOf binary64) (floats (x ∷ [])))) [] []
+answerTo (kind k nine three) = ofKind (workOf binary64 (record { kind = k; way = 0; nine = floats nine; three = floats three }))
+answerTo (factor2 a) = ofFactor (factor2Of binary64 (floats (old 3)) (floats a))
+answerTo (factor3 a) = ofFactor (factor3Of binary64 (floats (old 6)) (floats a))
+answerTo (whole request) = ofStep (recordStepOf binary64 request (replicate 176 0xFF))
 
 -- ---- what is expected
 
@@ -70,24 +67,19 @@ filled n xs = xs ++ replicate (n - length xs) 0
 
 -- a record's answer with code 0
 abbrev pub good : ℕ → List ℕ → List ℕ → List ℕ → Shown
-good rotations values left right = record { code = 0; six = rotations; seven = 1; values = filled 3 values; left = filled 9 left; right = filled 9 right }
+good rotations values left right = numbers 0 rotations 1 (filled 3 values) (filled 9 left) (filled 9 right)
 
 -- a refused one, with the pivot's number or 0
 abbrev pub bad : ℕ → ℕ → Shown
-bad code pivot = record { code = code; six = pivot; seven = 0; values = filled 3 []; left = filled 9 []; right = filled 9 [] }
+bad code pivot = numbers code pivot 0 (filled 3 []) (filled 9 []) (filled 9 [])
 
 -- a factor that stopped, and what it wrote before the old numbers
 abbrev pub early : ℕ → List ℕ → Shown
-early pivot left = record { code = 6; six = pivot; seven = 0; values = []; left = left; right = [] }
+early pivot left = numbers 6 pivot 0 [] left []
 
-abbrev pub rootRow : ℕ → ℕ → Row
-rootRow x y = record { asked = root; nine = x ∷ []; three = []; answer = record { code = 0; six = 0; seven = 0; values = y ∷ []; left = []; right = [] } }
-
-abbrev pub kindRow : ℕ → List ℕ → List ℕ → Shown → Row
-kindRow k nine three answer = record { asked = kind k; nine = nine; three = three; answer = answer }
-
-abbrev pub factorRow : Call → List ℕ → Shown → Row
-factorRow asked nine answer = record { asked = asked; nine = nine; three = []; answer = answer }
+-- a root
+abbrev pub number : ℕ → Shown
+number x = numbers 0 0 0 (x ∷ []) [] []
 
 -- ---- numbers
 
@@ -120,43 +112,62 @@ largest = 0x7FEFFFFFFFFFFFFF
 abbrev pub power : ℕ → ℕ
 power biased = biased * 2 ^ 52
 
+-- ---- numbers as bytes
+
+abbrev pub oneBytes : List ℕ
+oneBytes = 0 ∷ 0 ∷ 0 ∷ 0 ∷ 0 ∷ 0 ∷ 0xF0 ∷ 0x3F ∷ []
+
+abbrev pub twoBytes : List ℕ
+twoBytes = 0 ∷ 0 ∷ 0 ∷ 0 ∷ 0 ∷ 0 ∷ 0x00 ∷ 0x40 ∷ []
+
+abbrev pub threeBytes : List ℕ
+threeBytes = 0 ∷ 0 ∷ 0 ∷ 0 ∷ 0 ∷ 0 ∷ 0x08 ∷ 0x40 ∷ []
+
+-- h, or -h, by its last byte
+abbrev pub hBytes : ℕ → List ℕ
+hBytes last = 0xCD ∷ 0x3B ∷ 0x7F ∷ 0x66 ∷ 0x9E ∷ 0xA0 ∷ 0xE6 ∷ last ∷ []
+
 -- ---- the table
 
 abbrev pub table : List Row
 table =
     -- P1: the root of -0
-    rootRow (minus 0) (minus 0)
+    row (root (minus 0)) (number (minus 0))
     -- P2: of 2^-1074, which is 2^-537
-    ∷ rootRow 1 (power (1023 - 537))
+    ∷ row (root 1) (number (power (1023 - 537)))
     -- P3: of (2^53 - 1) * 2^971, which is (2^53 - 1) * 2^459
-    ∷ rootRow largest (power (1023 + 459 + 53) - 1)
+    ∷ row (root largest) (number (power (1023 + 459 + 53) - 1))
     -- P4
-    ∷ kindRow 1 (one ∷ 0 ∷ one ∷ []) [] (good 0 (one ∷ one ∷ []) (0 ∷ one ∷ one ∷ minus 0 ∷ []) [])
+    ∷ row (kind 1 (one ∷ 0 ∷ one ∷ []) []) (good 0 (one ∷ one ∷ []) (0 ∷ one ∷ one ∷ minus 0 ∷ []) [])
     -- P5
-    ∷ kindRow 1 (largest ∷ largest ∷ largest ∷ []) [] (bad 7 0)
+    ∷ row (kind 1 (largest ∷ largest ∷ largest ∷ []) []) (bad 7 0)
     -- P6
-    ∷ kindRow 2 (three ∷ 0 ∷ one ∷ 0 ∷ 0 ∷ two ∷ []) [] (good 0 (one ∷ two ∷ three ∷ []) (0 ∷ one ∷ 0 ∷ 0 ∷ 0 ∷ one ∷ one ∷ 0 ∷ 0 ∷ []) [])
+    ∷ row (kind 2 (three ∷ 0 ∷ one ∷ 0 ∷ 0 ∷ two ∷ []) []) (good 0 (one ∷ two ∷ three ∷ []) (0 ∷ one ∷ 0 ∷ 0 ∷ 0 ∷ one ∷ one ∷ 0 ∷ 0 ∷ []) [])
     -- P7: 1 - 2^-44 is 2^9 patterns below 1, and 1 + 2^-44 is 2^8 above
-    ∷ kindRow 2 (one ∷ power (1023 - 44) ∷ one ∷ 0 ∷ 0 ∷ one ∷ []) []
+    ∷ row (kind 2 (one ∷ power (1023 - 44) ∷ one ∷ 0 ∷ 0 ∷ one ∷ []) [])
     (good 1 ((one - 2 ^ 9) ∷ one ∷ (one + 2 ^ 8) ∷ []) (h ∷ minus h ∷ 0 ∷ 0 ∷ 0 ∷ one ∷ h ∷ h ∷ 0 ∷ []) [])
     -- P8
-    ∷ kindRow 2 (one ∷ (power (1023 - 44) - 1) ∷ one ∷ 0 ∷ 0 ∷ one ∷ []) []
+    ∷ row (kind 2 (one ∷ (power (1023 - 44) - 1) ∷ one ∷ 0 ∷ 0 ∷ one ∷ []) [])
     (good 0 (one ∷ one ∷ one ∷ []) (one ∷ 0 ∷ 0 ∷ 0 ∷ one ∷ 0 ∷ 0 ∷ 0 ∷ one ∷ []) [])
     -- P9
-    ∷ kindRow 2 (minus two ∷ minus one ∷ minus two ∷ 0 ∷ 0 ∷ minus five ∷ []) []
+    ∷ row (kind 2 (minus two ∷ minus one ∷ minus two ∷ 0 ∷ 0 ∷ minus five ∷ []) [])
     (good 1 (minus five ∷ minus three ∷ minus one ∷ []) (0 ∷ 0 ∷ one ∷ h ∷ h ∷ 0 ∷ h ∷ minus h ∷ 0 ∷ []) [])
     -- P10
-    ∷ kindRow 3 (one ∷ 0 ∷ 0 ∷ minus two ∷ []) []
+    ∷ row (kind 3 (one ∷ 0 ∷ 0 ∷ minus two ∷ []) [])
     (good 0 (two ∷ one ∷ []) (minus 0 ∷ minus one ∷ one ∷ minus 0 ∷ []) (0 ∷ one ∷ one ∷ minus 0 ∷ []))
     -- P11
-    ∷ kindRow 4 (one ∷ 0 ∷ 0 ∷ 0 ∷ minus two ∷ 0 ∷ 0 ∷ 0 ∷ three ∷ []) []
+    ∷ row (kind 4 (one ∷ 0 ∷ 0 ∷ 0 ∷ minus two ∷ 0 ∷ 0 ∷ 0 ∷ three ∷ []) [])
     (good 0 (three ∷ two ∷ one ∷ []) (0 ∷ 0 ∷ one ∷ minus 0 ∷ minus one ∷ minus 0 ∷ one ∷ 0 ∷ 0 ∷ []) (0 ∷ 0 ∷ one ∷ 0 ∷ one ∷ 0 ∷ one ∷ 0 ∷ 0 ∷ []))
     -- P12: 8 and 10 on the right; 1.25 and 1.5
-    ∷ kindRow 7 (four ∷ two ∷ five ∷ []) (0x4020000000000000 ∷ 0x4024000000000000 ∷ [])
+    ∷ row (kind 7 (four ∷ two ∷ five ∷ []) (0x4020000000000000 ∷ 0x4024000000000000 ∷ []))
     (good 0 (0x3FF4000000000000 ∷ 0x3FF8000000000000 ∷ []) (two ∷ one ∷ two ∷ []) [])
     -- P13, the record, and what its kernel wrote
-    ∷ kindRow 5 (one ∷ one ∷ one ∷ []) [] (bad 6 2)
-    ∷ factorRow factor2 (one ∷ one ∷ one ∷ []) (early 2 (one ∷ one ∷ old 1))
+    ∷ row (kind 5 (one ∷ one ∷ one ∷ []) []) (bad 6 2)
+    ∷ row (factor2 (one ∷ one ∷ one ∷ [])) (early 2 (one ∷ one ∷ old 1))
     -- P14
-    ∷ factorRow factor3 (one ∷ 0 ∷ one ∷ one ∷ 0 ∷ one ∷ []) (early 3 (one ∷ 0 ∷ one ∷ one ∷ 0 ∷ old 1))
+    ∷ row (factor3 (one ∷ 0 ∷ one ∷ one ∷ 0 ∷ one ∷ [])) (early 3 (one ∷ 0 ∷ one ∷ one ∷ 0 ∷ old 1))
+    -- the whole example: event 7, kind 1, numbers 2, 1, 2; h is CD 3B 7F 66 9E A0 E6 3F
+    ∷ row (whole (7 ∷ 0 ∷ 0 ∷ 0 ∷ 1 ∷ 0 ∷ 0 ∷ 0 ∷ twoBytes ++ oneBytes ++ twoBytes ++ replicate 72 0))
+    (slice 0
+    (7 ∷ 0 ∷ 0 ∷ 0 ∷ 1 ∷ 0 ∷ 0 ∷ 1 ∷ oneBytes ++ threeBytes ++ replicate 8 0 ++ hBytes 0x3F ++ hBytes 0xBF ++ hBytes 0x3F ++ hBytes 0x3F ++ replicate 112 0))
     ∷ []

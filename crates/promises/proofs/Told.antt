@@ -1,0 +1,103 @@
+-- What a code tells, in the scope's words, of any number that the rows give: a row that said less would not be enough. Each follows by going down the rows.
+use Rattle.float.proofs.Words.{_≡_, refl, sym, _∙_, Bool, true, false, true≢false, false≢true, List, _⊎_, ⊎-elim, ℕ, _≤_, _<_, arith, length, getD, drop, Float}
+use Rattle.float.proofs.Words.{Format, le}
+use Rattle.float.specs.Constants.{zeroF}
+use Rattle.float.specs.Sign.{finite}
+use Rattle.float.proofs.Choice.{by-eqb, either}
+use Rattle.matrix.specs.Places.{at}
+use Rattle.matrix.specs.Rows.{Gives}
+use Rattle.matrix.proofs.Rows.{taken-row, passed-row, not-given}
+use Rattle.promises.specs.Scope.{requestLength, answerLength, kindIn}
+use Rattle.promises.specs.Conditions.{Unused, usedIn, pivotsIn, madeIn, rows}
+
+-- ---- what is not refuted, of numbers and of tests
+
+same-number : (m n : ℕ) → ((m ≡ n → ⊥) → ⊥) → m ≡ n
+same-number m n h = by-eqb {A = ℕ} (λ _. m ≡ n) m n 0 0 (λ e. e) (λ k. absurd (h k))
+
+so : (t : Bool) → ((t ≡ true → ⊥) → ⊥) → t ≡ true
+so true h = refl
+so false h = absurd (h false≢true)
+
+not-so : (t : Bool) → ((t ≡ false → ⊥) → ⊥) → t ≡ false
+not-so true h = absurd (h true≢false)
+not-so false h = refl
+
+le-unless : (m n : ℕ) → (n < m → ⊥) → m ≤ n
+le-unless m n h = either n m (λ l. absurd (h l)) (λ l. l)
+
+-- ---- a request and an answer slice, and the code that the rows give
+
+module _ (f : Format) (s a : List ℕ) (c : ℕ) (g : Gives (rows f s a) c) where
+  abbrev pub Sizes : Type 0
+  Sizes = (length a ≡ answerLength f) × (length s ≡ requestLength f)
+
+  abbrev pub Kind : Type 0
+  Kind = (1 ≤ kindIn s) × (kindIn s ≤ 8)
+
+  abbrev pub Zeros : Type 0
+  Zeros = (i : ℕ) → Unused f (kindIn s) i → getD s i 0 ≡ 0
+
+  abbrev pub AllFinite : List Float → Type 0
+  AllFinite xs = (i : ℕ) → i < length xs → finite (at xs i) ≡ true
+
+  abbrev pub AllAbove : List Float → Type 0
+  AllAbove xs = (i : ℕ) → i < length xs → le (at xs i) (zeroF f) ≡ false
+
+  past-sizes : Sizes → Gives (drop 2 (rows f s a)) c
+  past-sizes z = passed-row (passed-row g (λ w. w (z .0))) (λ w. w (z .1))
+
+  past-kind : Sizes → Kind → Gives (drop 3 (rows f s a)) c
+  past-kind z k = passed-row (past-sizes z) (λ w. w k)
+
+  past-zeros : Sizes → Kind → Zeros → Gives (drop 4 (rows f s a)) c
+  past-zeros z k u = passed-row (past-kind z k) (λ w. w u)
+
+  past-used : Sizes → Kind → Zeros → AllFinite (usedIn f s) → Gives (drop 5 (rows f s a)) c
+  past-used z k u n = passed-row (past-zeros z k u) (λ w. w n)
+
+  past-pivots : Sizes → Kind → Zeros → AllFinite (usedIn f s) → AllAbove (pivotsIn f s) → Gives (drop 6 (rows f s a)) c
+  past-pivots z k u n p = passed-row (past-used z k u n) (λ w. w p)
+
+  pub two-told : (length a ≡ answerLength f → ⊥) → c ≡ 2
+  two-told h = taken-row g h
+
+  pub one-told : length a ≡ answerLength f → (length s ≡ requestLength f → ⊥) → c ≡ 1
+  one-told e h = taken-row (passed-row g (λ w. w e)) h
+
+  pub three-told : Sizes → (kindIn s ≡ 0) ⊎ (8 < kindIn s) → c ≡ 3
+  three-told z h = taken-row (past-sizes z) (λ k. ⊎-elim (λ (e : kindIn s ≡ 0). omega (arith, k .0)) (λ (l : 8 < kindIn s). omega (arith, k .1)) h)
+
+  pub four-told : Sizes → Kind → (i : ℕ) → Unused f (kindIn s) i → (getD s i 0 ≡ 0 → ⊥) → c ≡ 4
+  four-told z k i u h = taken-row (past-kind z k) (λ w. h (w i u))
+
+  pub five-told : Sizes → Kind → Zeros → (i : ℕ) → i < length (usedIn f s) → finite (at (usedIn f s) i) ≡ false → c ≡ 5
+  five-told z k u i l h = taken-row (past-zeros z k u) (λ w. true≢false (sym (w i l) ∙ h))
+
+  pub six-told : Sizes → Kind → Zeros → AllFinite (usedIn f s) → (i : ℕ) → i < length (pivotsIn f s) → le (at (pivotsIn f s) i) (zeroF f) ≡ true → c ≡ 6
+  six-told z k u n i l h = taken-row (past-used z k u n) (λ w. false≢true (sym (w i l) ∙ h))
+
+  pub seven-told : Sizes → Kind → Zeros → AllFinite (usedIn f s) → AllAbove (pivotsIn f s)
+      → (i : ℕ) → i < length (madeIn f s) → finite (at (madeIn f s) i) ≡ false → c ≡ 7
+  seven-told z k u n p i l h = taken-row (past-pivots z k u n p) (λ w. true≢false (sym (w i l) ∙ h))
+
+  -- none of the rest: the sizes and the kind are right, what is to be zero is zero, and every number, given or made, is finite
+  pub zero-told : c ≡ 0 → Sizes × Kind × Zeros × AllFinite (usedIn f s) × AllAbove (pivotsIn f s) × AllFinite (madeIn f s)
+  zero-told e =
+      let r2 = not-given g (λ q. omega (arith, e)) in
+      let r1 = not-given (r2 .1) (λ q. omega (arith, e)) in
+      let r3 = not-given (r1 .1) (λ q. omega (arith, e)) in
+      let r4 = not-given (r3 .1) (λ q. omega (arith, e)) in
+      let r5 = not-given (r4 .1) (λ q. omega (arith, e)) in
+      let r6 = not-given (r5 .1) (λ q. omega (arith, e)) in
+      let r7 = not-given (r6 .1) (λ q. omega (arith, e)) in (
+        (same-number _ _ (r2 .0), same-number _ _ (r1 .0)),
+        kind (r3 .0),
+        (λ i u. same-number _ _ (λ k. r4 .0 (λ w. k (w i u)))),
+        (λ i l. so _ (λ k. r5 .0 (λ w. k (w i l)))),
+        (λ i l. not-so _ (λ k. r6 .0 (λ w. k (w i l)))),
+        (λ i l. so _ (λ k. r7 .0 (λ w. k (w i l)))),
+      )
+    where
+      kind : ((Kind → ⊥) → ⊥) → Kind
+      kind h = (le-unless 1 (kindIn s) (λ l. h (λ k. omega (arith, k .0))), le-unless (kindIn s) 8 (λ l. h (λ k. omega (arith, k .1))))
