@@ -1,8 +1,8 @@
 -- A list of n numbers is the table of what stands at its places: by induction on n.
 use Rattle.float.proofs.Words.{[], _≡_, refl, ap, _∙_, true, List, _∷_, _++_, ℕ, zero, suc, _≤_, _<_, zero-add, le-of-suc-le-suc, arith, length, take, drop}
-use Rattle.float.proofs.Words.{sym, take-all, sets, sets-eq, Float, Format}
+use Rattle.float.proofs.Words.{take-all, sets, sets-eq, Float, Format}
 use Rattle.float.specs.Sign.{finite, allFinite}
-use Rattle.float.proofs.Finite.{zero-finite, at-finite}
+use Rattle.float.proofs.Finite.{zero-finite}
 use Rattle.matrix.specs.Places.{zeros, at, tabulate}
 
 pub length-tabulate : (n : ℕ) (g : ℕ → Float) → length (tabulate n g) ≡ n

@@ -1,7 +1,6 @@
 -- The scope's numbers, written out, are those of the layout and of the table of kinds: each format and each kind is looked at.
 use Rattle.float.proofs.Words.{_≡_, refl, sym, ap, _∙_, Bool, true, false, false≢true, _&&_, List, [], _∷_, ℕ, zero, suc, _+_, _*_, _<_, arith, eqb, take, drop}
-use Rattle.float.proofs.Words.{Format, binary32}
-use Rattle.float.proofs.Words.{inl, inr, binary64, ofBits, ne-eqb}
+use Rattle.float.proofs.Words.{inl, inr, Format, binary32, binary64, ofBits, ne-eqb}
 use Rattle.float.specs.Sign.{allFinite}
 use Rattle.float.proofs.Finite.{all-finite-append}
 use Rattle.matrix.proofs.Tables.{tabulate-same, first-tabulate}
