@@ -10,3 +10,7 @@ one-less (suc k) w h = let e : suc k - 1 ≡ k = omega arith in rw (e, suc-mul) 
 -- the whole items of s bytes among t bytes, and their answers of w bytes in l bytes, if k items have t bytes or more, and k answers go in
 pub split : (t k s w l : ℕ) → t ≤ k * s → k * w ≤ l → (t / s * s ≤ t) × (t / s * w ≤ l)
 split t k s w l h r = (div-mul-le-self t s, le-trans (mul-le-mul-right w (div-le-of-le-mul s (rw mul-comm at h))) r)
+
+-- so many parts take no more than the most of them
+pub fewer : (k most w l : ℕ) → k ≤ most → most * w ≤ l → k * w ≤ l
+fewer k most w l h r = le-trans (mul-le-mul-right w h) r
