@@ -20,33 +20,29 @@ answer-items-requires : tie.Need-answer-items-requires
 answer-items-requires c κs =
     let k = c .before .before .before .before in
     let a = k .before .before .before .before .before .args in
-    let e = fewer (a .most) 128 (8 * a .job .n) 65536 (omega arith) (omega arith) in
-    let f = fewer (a .most) 128 (8 * a .job .m) 65536 (omega arith) (omega arith) in
-    let h = split (k .fill .result) (a .most) (8 * a .job .n) (8 * a .job .m) 65536 (omega arith) f in
+    let f = fewer (a .most) 128 (8 * a .job .n) 65536 (omega arith) (omega arith) in
+    let h = split (k .fill .result) (a .most) 128 (8 * a .job .n) (8 * a .job .m) 65536 (omega arith) (omega arith) (omega arith) in
     search needs
 
 mul-full-2 : tie.Need-mul-full-2
 mul-full-2 c =
     let k = c .before .before .before .before .before .before .before .before in
     let a = k .before .before .before .before .before .args in
-    let f = fewer (a .most) 128 (8 * a .job .m) 65536 (omega arith) (omega arith) in
-    let h = split (k .fill .result) (a .most) (8 * a .job .n) (8 * a .job .m) 65536 (omega arith) f in
+    let h = split (k .fill .result) (a .most) 128 (8 * a .job .n) (8 * a .job .m) 65536 (omega arith) (omega arith) (omega arith) in
     search needs
 
 slice-reshare-prefix-written : tie.Need-slice-reshare-prefix-written
 slice-reshare-prefix-written c =
     let k = c .before .before .before .before .before .before .before .before in
     let a = k .before .before .before .before .before .args in
-    let f = fewer (a .most) 128 (8 * a .job .m) 65536 (omega arith) (omega arith) in
-    let h = split (k .fill .result) (a .most) (8 * a .job .n) (8 * a .job .m) 65536 (omega arith) f in
+    let h = split (k .fill .result) (a .most) 128 (8 * a .job .n) (8 * a .job .m) 65536 (omega arith) (omega arith) (omega arith) in
     search needs
 
 slice-aggregate-written : tie.Need-slice-aggregate-written
 slice-aggregate-written c =
     let k = c .before .before .before .before .before .before .before .before .before in
     let a = k .before .before .before .before .before .args in
-    let f = fewer (a .most) 128 (8 * a .job .m) 65536 (omega arith) (omega arith) in
-    let h = split (k .fill .result) (a .most) (8 * a .job .n) (8 * a .job .m) 65536 (omega arith) f in
+    let h = split (k .fill .result) (a .most) 128 (8 * a .job .n) (8 * a .job .m) 65536 (omega arith) (omega arith) (omega arith) in
     simp length-take (omega arith)
 
 pub round-spec : {M : Type 1} → statement M
