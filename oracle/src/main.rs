@@ -6,6 +6,7 @@ mod codes;
 mod driver;
 mod eigen;
 mod float;
+mod golden;
 mod in_place;
 mod kinds;
 mod lent;
@@ -35,7 +36,10 @@ use std::process::ExitCode;
 fn main() -> ExitCode {
     let words: Vec<String> = std::env::args().skip(1).collect();
     let words: Vec<&str> = words.iter().map(String::as_str).collect();
-    let done = with_records(&words).or_else(|| with_subject(&words));
+    let done = match &words[..] {
+        ["operations", input, output] => Some(golden::write(input, output)),
+        _ => with_records(&words).or_else(|| with_subject(&words)),
+    };
     match done {
         Some(Ok(true)) => ExitCode::SUCCESS,
         Some(Ok(false)) => ExitCode::FAILURE,
@@ -53,6 +57,7 @@ fn main() -> ExitCode {
 fn usage() {
     let names: Vec<&str> = subjects::all().map(|s| s.name).collect();
     eprintln!("usage: oracle SUBJECT COUNT SEED [PROBE-COMMAND...]");
+    eprintln!("       oracle operations INPUT OUTPUT");
     eprintln!("       oracle search-eigen COUNT SEED");
     eprintln!("       oracle requests COUNT SEED > REQUESTS");
     eprintln!("       oracle golden > REQUESTS");
