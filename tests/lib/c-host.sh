@@ -26,15 +26,22 @@ make_libraries() { # CRATE..
     done
 }
 
-cc_works() { echo '#include <stdio.h>' | cc -E - >/dev/null 2>&1; }
+# Whether a compiler makes a program of an empty source that includes a header: it may lack headers, or a linker.
+compiler_works() { # LANGUAGE COMPILER
+    tried=$(mktemp -d) works=no
+    printf '%s\n' '#include <stdio.h>' 'int main(void) { return 0; }' >"$tried/empty.c"
+    if "$2" -x "$1" "$tried/empty.c" -o "$tried/empty" >/dev/null 2>&1 && [ -x "$tried/empty" ]; then works=yes; fi
+    rm -r "$tried"
+    [ "$works" = yes ]
+}
 
 # On x86-64 the machine's own compiler is taken, as a user's would be. Another kind of machine has none
 # for x86-64, and one without a compiler may be unable to install it: there the kit's serves.
 choose_compiler() {
     compiler="the kit's clang"
     [ "$(uname -m)" = x86_64 ] || return 0
-    cc_works || { apt-get update && apt-get install -y gcc libc6-dev; } >&2 || return 0
-    if cc_works; then compiler=cc; fi
+    compiler_works c cc || { apt-get update && apt-get install -y gcc libc6-dev; } >&2 || return 0
+    if compiler_works c cc; then compiler=cc; fi
 }
 
 # The kit's compiler, which has no headers of its own.
@@ -79,10 +86,11 @@ run() { # PROGRAM WORDS..
 }
 
 # host_test NAME CRATE..: host/NAME.c, with the crates' libraries, must find every answer right at -O0 and
-# at -O2, and print the lines of host/NAME.stdout.
+# at -O2, and print the lines of host/NAME.stdout, of which there are some.
 host_test() {
     host_name=$1
     shift
+    [ -s "host/$host_name.stdout" ] || { echo "${0##*/} FAILED: host/$host_name.stdout is empty or not there"; exit 1; }
     make_libraries "$@"
     choose_compiler
     mkdir -p "$room"

@@ -11,12 +11,16 @@ if ! rt check "${proved:-probe}" >"target/$test.log" 2>&1; then
     exit 1
 fi
 
-failed=''
+# An oracle that prints nothing has compared nothing: what it says at the end of a subject is looked at, as well as its status.
+failed='' said=target/$test.said
 compare() { # COUNT SUBJECT..
+    all_equal="$1 inputs, 0 differences, [1-9][0-9]* branches, 0 never hit"
     count=$1
     shift
     for subject; do
-        "$oracle" "$subject" "$count" "$seed" tests/lib/run-proved target/bin/probe || failed="$failed $subject"
+        "$oracle" "$subject" "$count" "$seed" tests/lib/run-proved target/bin/probe >"$said" || failed="$failed $subject"
+        cat "$said"
+        tail -n 1 "$said" | grep -q "^$subject: $all_equal\$" || failed="$failed $subject:not-all-equal"
     done
 }
 
