@@ -35,7 +35,10 @@ use std::process::ExitCode;
 fn main() -> ExitCode {
     let words: Vec<String> = std::env::args().skip(1).collect();
     let words: Vec<&str> = words.iter().map(String::as_str).collect();
-    let done = with_records(&words).or_else(|| with_subject(&words));
+    let done = match words[..] {
+        ["subjects"] => Some(Ok(list_subjects())),
+        _ => with_records(&words).or_else(|| with_subject(&words)),
+    };
     match done {
         Some(Ok(true)) => ExitCode::SUCCESS,
         Some(Ok(false)) => ExitCode::FAILURE,
@@ -51,15 +54,22 @@ fn main() -> ExitCode {
 }
 
 fn usage() {
-    let names: Vec<&str> = subjects::all().map(|s| s.name).collect();
-    eprintln!("usage: oracle SUBJECT COUNT SEED [PROBE-COMMAND...]");
+    eprintln!("usage: oracle subjects");
+    eprintln!("       oracle SUBJECT COUNT SEED [PROBE-COMMAND...]");
     eprintln!("       oracle search-eigen COUNT SEED");
     eprintln!("       oracle requests COUNT SEED > REQUESTS");
     eprintln!("       oracle golden > REQUESTS");
     eprintln!("       oracle answers < REQUESTS > ANSWERS");
     eprintln!("       oracle branches < REQUESTS");
     eprintln!("       oracle table REQUESTS ANSWERS");
-    eprintln!("subjects: {}", names.join(" "));
+}
+
+/// Prints the name of each subject, and says whether there are any.
+fn list_subjects() -> bool {
+    for subject in subjects::all() {
+        println!("{}", subject.name);
+    }
+    subjects::all().count() > 0
 }
 
 /// Does what the words ask for, where that is of records, and says whether all is well.

@@ -11,8 +11,15 @@ if ! rt check "${proved:-probe}" >"target/$test.log" 2>&1; then
     exit 1
 fi
 
-# An oracle that prints nothing has compared nothing: what it says at the end of a subject is looked at, as well as its status.
 failed='' said=target/$test.said
+
+# A subject that no test compares would go unseen.
+subjects=$("$oracle" subjects) || failed=' subjects'
+for subject in $subjects; do
+    grep -qE "^compare .* $subject( |\$)" tests/differential-* || failed="$failed $subject:no-test-compares-it"
+done
+
+# An oracle that prints nothing has compared nothing: what it says at the end of a subject is looked at, as well as its status.
 compare() { # COUNT SUBJECT..
     all_equal="$1 inputs, 0 differences, [1-9][0-9]* branches, 0 never hit"
     count=$1

@@ -12,7 +12,7 @@ rust() { rustc --edition 2021 -C opt-level=3 -C llvm-args=-fp-contract=off "$@";
 rust_version() { rustc --version 2>/dev/null | cut -d ' ' -f 2; }
 
 missing_rust() {
-    version=$(rust_version)
+    version=$(rust_version) || version=''
     if [ -z "$version" ]; then
         echo 'no rustc'
     elif ! printf '%s\n' "$oldest_rust" "$version" | sort -V -C; then
