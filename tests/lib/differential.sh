@@ -25,9 +25,12 @@ compare() { # COUNT SUBJECT..
     count=$1
     shift
     for subject; do
-        "$oracle" "$subject" "$count" "$seed" tests/lib/run-proved target/bin/probe >"$said" || failed="$failed $subject"
+        if ! "$oracle" "$subject" "$count" "$seed" tests/lib/run-proved target/bin/probe >"$said"; then
+            failed="$failed $subject"
+        elif ! tail -n 1 "$said" | grep -q "^$subject: $all_equal\$"; then
+            failed="$failed $subject:nothing-compared"
+        fi
         cat "$said"
-        tail -n 1 "$said" | grep -q "^$subject: $all_equal\$" || failed="$failed $subject:not-all-equal"
     done
 }
 
