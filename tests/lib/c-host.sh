@@ -85,23 +85,27 @@ run() { # PROGRAM WORDS..
     if [ "$compiler" = cc ]; then "$@"; else run_proved "$@"; fi
 }
 
-# host_test NAME CRATE..: host/NAME.c, with the crates' libraries, must find every answer right at -O0 and
-# at -O2, and print the lines of host/NAME.stdout, of which there are some.
+# Runs a program of host/NAME.c, which must find every answer right, and print the lines of host/NAME.stdout, of which there are some.
+prints_its_lines() { # NAME PROGRAM
+    [ -s "host/$1.stdout" ] || { echo "${0##*/} FAILED: host/$1.stdout is empty or not there"; exit 1; }
+    if ! run "$2" >"$2.stdout" || ! cmp "$2.stdout" "host/$1.stdout"; then
+        cat "$2.stdout"
+        echo "${0##*/} FAILED: $2 finds an answer wrong, or prints a line that is not that of host/$1.stdout"
+        exit 1
+    fi
+}
+
+# host_test NAME CRATE..: host/NAME.c, with the crates' libraries, does so at -O0 and at -O2.
 host_test() {
     host_name=$1
     shift
-    [ -s "host/$host_name.stdout" ] || { echo "${0##*/} FAILED: host/$host_name.stdout is empty or not there"; exit 1; }
     make_libraries "$@"
     choose_compiler
     mkdir -p "$room"
     for level in 0 2; do
         program=$room/$host_name-O$level
         build "host/$host_name.c" "$level" "$program"
-        if ! run "$program" >"$program.stdout" || ! cmp "$program.stdout" "host/$host_name.stdout"; then
-            cat "$program.stdout"
-            echo "${0##*/} FAILED: at -O$level of the host an answer is wrong, or a line is not that of host/$host_name.stdout"
-            exit 1
-        fi
+        prints_its_lines "$host_name" "$program"
     done
     cat "$room/$host_name-O2.stdout"
     echo "${0##*/} passed: the same lines at -O0 and at -O2 of the host (compiled by $compiler)"
