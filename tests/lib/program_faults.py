@@ -370,13 +370,13 @@ CASES = [
 WITH_IGNORED = (file_too_large, closed_pipe)
 
 
-def keeps_ignored():
-    """Whether another program, started in the same way, has its write to a closed pipe fail and lives on."""
+def drops_ignored():
+    """Whether the signal of a closed pipe ends another program that is started in the same way, with that signal ignored."""
     reader, writer = os.pipe()
     os.close(reader)
     status = subprocess.call(os.environ['CLOSED_PIPE'].split(), stdout=writer, restore_signals=False)
     os.close(writer)
-    return status == 3
+    return status in (-signal.SIGPIPE, 128 + signal.SIGPIPE)
 
 
 def main():
@@ -388,7 +388,7 @@ def main():
             verdict = 'ok'
         except (Wrong, OSError) as reason:
             Run.last.process.kill()
-            if case in WITH_IGNORED and not keeps_ignored():
+            if case in WITH_IGNORED and drops_ignored():
                 verdict = f'passed over, since a signal that is ignored does not stay so here: {reason}'
             else:
                 verdict, wrong = f'WRONG: {reason}', wrong + 1
