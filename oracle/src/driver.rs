@@ -9,7 +9,7 @@ use std::thread;
 /// So many differences are shown.
 const SHOWN: u64 = 10;
 
-/// Prints the counts and says whether all is well: no difference, and each branch hit.
+/// Prints the counts and says whether all is well: some input, no difference, and each branch hit.
 pub fn run(subject: &'static Subject, count: u64, seed: u64, probe: &[&str]) -> io::Result<bool> {
     let mut child = start(probe)?;
     let input = child.stdin.take().expect("a pipe");
@@ -31,10 +31,10 @@ pub fn run(subject: &'static Subject, count: u64, seed: u64, probe: &[&str]) -> 
         subject.name,
         subject.branches.len()
     );
-    Ok(differences == 0 && missed == 0)
+    Ok(count > 0 && differences == 0 && missed == 0)
 }
 
-/// Prints the counts of so many inputs, with nothing to compare, and says whether each branch was hit.
+/// Prints the counts of so many inputs, with nothing to compare, and says whether there were any and each branch was hit.
 pub fn survey(subject: &Subject, count: u64, seed: u64) -> bool {
     let mut random = Random::new(seed);
     let mut hits = Hits(vec![0; subject.branches.len()]);
@@ -44,7 +44,7 @@ pub fn survey(subject: &Subject, count: u64, seed: u64) -> bool {
         (subject.input)(&mut random, number, &mut words, &mut hits);
         (subject.answer)(&words, &mut right, &mut hits);
     }
-    show(subject, &hits) == 0
+    show(subject, &hits) == 0 && count > 0
 }
 
 fn start(probe: &[&str]) -> io::Result<Child> {

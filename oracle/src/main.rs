@@ -37,6 +37,7 @@ fn main() -> ExitCode {
     let words: Vec<String> = std::env::args().skip(1).collect();
     let words: Vec<&str> = words.iter().map(String::as_str).collect();
     let done = match &words[..] {
+        ["subjects"] => Some(Ok(list_subjects())),
         ["operations", input, output] => Some(golden::write(input, output)),
         _ => with_records(&words).or_else(|| with_subject(&words)),
     };
@@ -55,8 +56,8 @@ fn main() -> ExitCode {
 }
 
 fn usage() {
-    let names: Vec<&str> = subjects::all().map(|s| s.name).collect();
-    eprintln!("usage: oracle SUBJECT COUNT SEED [PROBE-COMMAND...]");
+    eprintln!("usage: oracle subjects");
+    eprintln!("       oracle SUBJECT COUNT SEED [PROBE-COMMAND...]");
     eprintln!("       oracle operations INPUT OUTPUT");
     eprintln!("       oracle search-eigen COUNT SEED");
     eprintln!("       oracle requests COUNT SEED > REQUESTS");
@@ -64,7 +65,14 @@ fn usage() {
     eprintln!("       oracle answers < REQUESTS > ANSWERS");
     eprintln!("       oracle branches < REQUESTS");
     eprintln!("       oracle table REQUESTS ANSWERS");
-    eprintln!("subjects: {}", names.join(" "));
+}
+
+/// Prints the name of each subject, and says whether there are any.
+fn list_subjects() -> bool {
+    for subject in subjects::all() {
+        println!("{}", subject.name);
+    }
+    subjects::all().count() > 0
 }
 
 /// Does what the words ask for, where that is of records, and says whether all is well.

@@ -26,15 +26,22 @@ make_libraries() { # CRATE..
     done
 }
 
-cc_works() { echo '#include <stdio.h>' | cc -E - >/dev/null 2>&1; }
+# Whether a compiler makes a program of an empty source that includes a header: it may lack headers, or a linker.
+compiler_works() { # LANGUAGE COMPILER
+    tried=$(mktemp -d) works=no
+    printf '%s\n' '#include <stdio.h>' 'int main(void) { return 0; }' >"$tried/empty.c"
+    if "$2" -x "$1" "$tried/empty.c" -o "$tried/empty" >/dev/null 2>&1 && [ -x "$tried/empty" ]; then works=yes; fi
+    rm -r "$tried"
+    [ "$works" = yes ]
+}
 
 # On x86-64 the machine's own compiler is taken, as a user's would be. Another kind of machine has none
 # for x86-64, and one without a compiler may be unable to install it: there the kit's serves.
 choose_compiler() {
     compiler="the kit's clang"
     [ "$(uname -m)" = x86_64 ] || return 0
-    cc_works || { apt-get update && apt-get install -y gcc libc6-dev; } >&2 || return 0
-    if cc_works; then compiler=cc; fi
+    compiler_works c cc || { apt-get update && apt-get install -y gcc libc6-dev; } >&2 || return 0
+    if compiler_works c cc; then compiler=cc; fi
 }
 
 # The kit's compiler, which has no headers of its own.
@@ -78,8 +85,17 @@ run() { # PROGRAM WORDS..
     if [ "$compiler" = cc ]; then "$@"; else run_proved "$@"; fi
 }
 
-# host_test NAME CRATE..: host/NAME.c, with the crates' libraries, must find every answer right at -O0 and
-# at -O2, and print the lines of host/NAME.stdout.
+# Runs a program of host/NAME.c, which must find every answer right, and print the lines of host/NAME.stdout, of which there are some.
+prints_its_lines() { # NAME PROGRAM
+    [ -s "host/$1.stdout" ] || { echo "${0##*/} FAILED: host/$1.stdout is empty or not there"; exit 1; }
+    if ! run "$2" >"$2.stdout" || ! cmp "$2.stdout" "host/$1.stdout"; then
+        cat "$2.stdout"
+        echo "${0##*/} FAILED: $2 finds an answer wrong, or prints a line that is not that of host/$1.stdout"
+        exit 1
+    fi
+}
+
+# host_test NAME CRATE..: host/NAME.c, with the crates' libraries, does so at -O0 and at -O2.
 host_test() {
     host_name=$1
     shift
@@ -89,11 +105,7 @@ host_test() {
     for level in 0 2; do
         program=$room/$host_name-O$level
         build "host/$host_name.c" "$level" "$program"
-        if ! run "$program" >"$program.stdout" || ! cmp "$program.stdout" "host/$host_name.stdout"; then
-            cat "$program.stdout"
-            echo "${0##*/} FAILED: at -O$level of the host an answer is wrong, or a line is not that of host/$host_name.stdout"
-            exit 1
-        fi
+        prints_its_lines "$host_name" "$program"
     done
     cat "$room/$host_name-O2.stdout"
     echo "${0##*/} passed: the same lines at -O0 and at -O2 of the host (compiled by $compiler)"

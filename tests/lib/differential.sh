@@ -11,12 +11,26 @@ if ! rt check "${proved:-probe}" >"target/$test.log" 2>&1; then
     exit 1
 fi
 
-failed=''
+failed='' said=target/$test.said
+
+# A subject that no test compares would go unseen.
+subjects=$("$oracle" subjects) || failed=' subjects'
+for subject in $subjects; do
+    grep -qE "^compare .* $subject( |\$)" tests/differential-* || failed="$failed $subject:no-test-compares-it"
+done
+
+# An oracle that prints nothing has compared nothing: what it says at the end of a subject is looked at, as well as its status.
 compare() { # COUNT SUBJECT..
+    all_equal="$1 inputs, 0 differences, [1-9][0-9]* branches, 0 never hit"
     count=$1
     shift
     for subject; do
-        "$oracle" "$subject" "$count" "$seed" tests/lib/run-proved target/bin/probe || failed="$failed $subject"
+        if ! "$oracle" "$subject" "$count" "$seed" tests/lib/run-proved target/bin/probe >"$said"; then
+            failed="$failed $subject"
+        elif ! tail -n 1 "$said" | grep -q "^$subject: $all_equal\$"; then
+            failed="$failed $subject:nothing-compared"
+        fi
+        cat "$said"
     done
 }
 

@@ -2,7 +2,8 @@
 
 KIND is `proved` or `host`: a proved program has no status and says nothing when all went well; the C program ends with 1 when
 a read or a write failed, and prints its tally when none did. NAME is what it calls itself. PRELOAD is VARIABLE=LIBRARY, which
-makes it run with the library of tests/lib/interrupted.c. Prints a line for each case, and ends with 1 if any is wrong.
+makes it run with the library of tests/lib/interrupted.c. The variable CLOSED_PIPE has the words that start the program of
+tests/lib/closed_pipe.c in the same way. Prints a line for each case, and ends with 1 if any is wrong.
 """
 import fcntl
 import os
@@ -365,6 +366,19 @@ CASES = [
 ]
 
 
+# They start the program with a signal ignored, and have shown nothing where that does not reach it.
+WITH_IGNORED = (file_too_large, closed_pipe)
+
+
+def drops_ignored():
+    """Whether the signal of a closed pipe ends another program that is started in the same way, with that signal ignored."""
+    reader, writer = os.pipe()
+    os.close(reader)
+    status = subprocess.call(os.environ['CLOSED_PIPE'].split(), stdout=writer, restore_signals=False)
+    os.close(writer)
+    return status in (-signal.SIGPIPE, 128 + signal.SIGPIPE)
+
+
 def main():
     wrong = 0
     for name, case in CASES:
@@ -373,8 +387,11 @@ def main():
             case()
             verdict = 'ok'
         except (Wrong, OSError) as reason:
-            verdict, wrong = f'WRONG: {reason}', wrong + 1
             Run.last.process.kill()
+            if case in WITH_IGNORED and drops_ignored():
+                verdict = f'passed over, since a signal that is ignored does not stay so here: {reason}'
+            else:
+                verdict, wrong = f'WRONG: {reason}', wrong + 1
         print(f'{NAME}: {name}: {verdict} ({time.monotonic() - began:.1f} s)', flush=True)
     return 1 if wrong else 0
 

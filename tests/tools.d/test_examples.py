@@ -44,7 +44,6 @@ class Night(ToolTest):
         isotropic = struct.pack('<6d', 2.0 ** 30, 2.0 ** -24, 2.0 ** 30, 2.0 ** -24, 0, 2.0 ** 30)
         self.assertEqual(sum(request[4] == 2 and request[8:56] == isotropic for request in self.whole), 1)
 
-    @unittest.skipUnless(os.path.exists(ANSWERS), 'there is no examples/night.answers')
     def test_its_answers(self):
         status, out, err = self.run_tool('show-answers', '--json', ANSWERS)
         self.assertEqual((status, err), (0, ''))

@@ -147,7 +147,6 @@ class Output(ToolTest):
         self.one_line(*self.run_tool('make-requests', 'folder'), 'folder: cannot be read')
         self.one_line(*self.run_tool('make-requests', 'none.txt'), 'none.txt: cannot be read')
 
-    @unittest.skipUnless(os.path.exists('/dev/full'), 'there is no /dev/full')
     def test_a_full_output(self):
         with open('/dev/full', 'wb') as full:
             done = subprocess.run([sys.executable, '-B', os.path.join(TOP, 'tools', 'make-requests')], input=b'7 1 2 1 2',
