@@ -52,11 +52,11 @@ fn serve(buf: &mut [u8], out: &mut [u8], s: State, total: usize) -> State
 {
     let n = answer_whole(buf, out, total);
     let end = ANSWER_SIZE * n;
-    let gone = put(&out[..end]);
+    let w = put(&out[..end]);
     let from = REQUEST_SIZE * n;
     let kept = total - from;
     keep_rest(buf, from, kept);
-    after_answers(s, gone, n, kept)
+    after_answers(s, w.written, n, kept)
 }
 
 // Answers a last part of a request, of `have` bytes.
@@ -77,8 +77,8 @@ fn serve_last(buf: &[u8], out: &mut [u8], s: State) -> State
         return stop(End::Well, s.written);
     }
     answer_part(buf, out, have);
-    let gone = put(&out[..ANSWER_SIZE]);
-    after_part(s, gone)
+    let w = put(&out[..ANSWER_SIZE]);
+    after_part(s, w.written)
 }
 
 // What follows a read that ended so.
@@ -104,14 +104,23 @@ fn tell(end: End, written: u64) {
     }
 }
 
+// Reads and serves, until no round follows.
+fn serve_input(buf: &mut [u8], out: &mut [u8]) -> State
+    requires { ⌜ Large (now buf) × Large (now out) ⌝ }
+    ensures { λ s. ⌜ s .rounds ≡ 0 ⌝ }
+{
+    let mut s = start();
+    while s.rounds > 0 {
+        let o = read(buf, s.kept);
+        s = follow(o, buf, out, s);
+    }
+    s
+}
+
 fn main() {
     let mut buf = io::large_buffer();
     let mut out = io::large_buffer();
-    let mut s = start();
-    while s.rounds > 0 {
-        let o = read(&mut buf, s.kept);
-        s = follow(o, &mut buf, &mut out, s);
-    }
+    let s = serve_input(&mut buf, &mut out);
     let end = s.end;
     tell(end, s.written);
 }

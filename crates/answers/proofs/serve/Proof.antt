@@ -10,8 +10,8 @@ returns c =
     let p = r .before .before in
     let k = p .before .before .before .before in
     let a = k .before .before .before .before .before .args in
-    let g = simp length-take at (p .put .ensures) in
-    served (a .buf .now) (r .keep-rest .last .0) (k .answer-whole .last .1 .0) (a .total) (k .answer-whole .result) (p .put .result) (a .s)
+    let g = simp length-take at (p .put .ensures .1) in
+    served (a .buf .now) (r .keep-rest .last .0) (k .answer-whole .last .1 .0) (a .total) (k .answer-whole .result) (p .put .result .written) (a .s)
     (c .after-answers .result) (omega arith) (omega arith) (k .answer-whole .ensures) (omega arith) (r .keep-rest .ensures) (c .after-answers .ensures)
 
 pub serve-spec : {M : Type 1} → statement M

@@ -18,7 +18,7 @@ returns-2 c =
     let a = c .before .before .before .before .before .before .before .before .before .before .args in
     record {
       answered = λ h. c .before .before .before .before .before .answer-part .ensures;
-      gone = c .before .put .result;
+      gone = c .before .put .result .written;
       state = c .after-part .ensures ∙ (rw (lt-ltb 0 (a .s .kept) (omega arith)));
     }
 
