@@ -25,8 +25,8 @@ after : (c : tie.After-follow Inv-loop μ-loop) → Next (c .before .before .bef
 after c =
     let r = c .before .before .before .before .before in
     let k = r .before .before .before .before in
-    next (k .loop .s) (k .loop .inv .2) (omega arith) (r .read .result) (r .read .last .0) (c .follow .last .1 .0) (c .follow .last .1 .1 .0) (c .follow .result)
-    (omega arith) (r .read .ensures .most) (c .follow .ensures)
+    next (k .loop .s) (k .loop .inv .2) (omega arith) (r .read .result) (r .read .last .0) (c .follow .last .1 .0) (c .follow .last .1 .1 .0)
+    (c .follow .result) (omega arith) (r .read .ensures .most) (c .follow .ensures)
 
 loop-again : tie.Need-loop-again Inv-loop μ-loop
 loop-again c = (omega arith, omega arith, after (c .before .before .before .before) .ready)
