@@ -69,7 +69,7 @@ fn answer_part(buf: &[u8], out: &mut [u8], have: usize)
 
 // The end of the input. A part that is kept is the last one.
 fn serve_last(buf: &[u8], out: &mut [u8], s: State) -> State
-    requires { ⌜ Large (now buf) × Large (now out) × Ready F s × (0 < s .rounds) ⌝ }
+    requires { ⌜ Large (now buf) × Large (now out) × Ready F s ⌝ }
     ensures { λ t. ⌜ LastServed F (now (out .exit)) s t ⌝ }
 {
     let have = s.kept;
