@@ -6,13 +6,15 @@ use lib.ListN.{length, take}
 use lib.Ieee.{Format}
 use Rattle.stdio.specs.declared.Outcome.{Outcome}
 use Rattle.stdio.specs.declared.Outcome.the-variants.{Bytes, Nothing, Interrupted, Failed}
+use Rattle.stdio.specs.Calls.{ReadBehind}
 use Rattle.stdio.specs.Kept.{wholeOf, restOf}
 use Rattle.record.specs.Layout.{requestSize, answerSize}
 use Rattle.record.specs.Answer.{wrongSizeOf}
 use Rattle.record.specs.Stream.{answersOf}
 use Rattle.answers.specs.declared.decide.End.the-variants.{CannotRead}
 use Rattle.answers.specs.declared.decide.State.{State}
-use Rattle.answers.specs.States.{goOn, stopOf, afterAnswers, atEnd}
+use Rattle.answers.specs.Buffers.{room}
+use Rattle.answers.specs.States.{startOf, goOn, stopOf, afterAnswers, atEnd}
 
 -- n is the number of whole requests among s, and their answers stand first
 abbrev pub Answered : Format → List ℕ → List ℕ → ℕ → Type 0
@@ -38,3 +40,13 @@ Followed f (Bytes n) buf left out before after = Served f (take (before .kept + 
 Followed f Nothing buf left out before after = LastServed f out before after
 Followed f Interrupted buf left out before after = (left ≡ buf) × (after ≡ goOn before (before .kept) (before .written))
 Followed f Failed buf left out before after = after ≡ stopOf CannotRead (before .written)
+
+-- the states that rounds lead to, with the bytes at hand: each round is a read, which ends somehow, and what follows that
+pub data Reached (f : Format) : List ℕ → State → Type 0 where
+  first : (buf : List ℕ) → Reached f buf startOf
+  round : (o : Outcome) (buf came left out : List ℕ) (before after : State) → Reached f buf before → 0 < before .rounds
+      → ReadBehind (before .kept) (room f) buf came o → Followed f o came left out before after → Reached f left after
+
+-- no round follows
+abbrev pub Finished : Format → List ℕ → State → Type 0
+Finished f left s = (s .rounds ≡ 0) × Reached f left s

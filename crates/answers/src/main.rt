@@ -31,7 +31,7 @@ ghost use Rattle.record.specs.Layout.{requestSize, answerSize};
 ghost use Rattle.record.specs.Answer.{wrongSizeOf};
 ghost use Rattle.answers.specs.Buffers.{Large, room};
 ghost use Rattle.answers.specs.States.{Ready};
-ghost use Rattle.answers.specs.Rounds.{Answered, Served, LastServed, Followed};
+ghost use Rattle.answers.specs.Rounds.{Answered, Served, LastServed, Followed, Finished};
 
 // The bytes of as many requests as a large buffer holds answers to.
 pub(crate) const ROOM: usize = 65536 / ANSWER_SIZE * REQUEST_SIZE;
@@ -107,7 +107,7 @@ fn tell(end: End, written: u64) {
 // Reads and serves, until no round follows.
 fn serve_input(buf: &mut [u8], out: &mut [u8]) -> State
     requires { ⌜ Large (now buf) × Large (now out) ⌝ }
-    ensures { λ s. ⌜ s .rounds ≡ 0 ⌝ }
+    ensures { λ s. ⌜ Finished F (now (buf .exit)) s ⌝ }
 {
     let mut s = start();
     while s.rounds > 0 {
