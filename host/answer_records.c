@@ -23,7 +23,7 @@ static const char *const words[] = {
     "the kind is not 1 to 8",
     "a reserved byte or an unused number is not zero",
     "an input number is not finite",
-    "a pivot is not above zero",
+    "a pivot is at most zero",
     "a number of the answer is not finite",
 };
 

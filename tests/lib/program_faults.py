@@ -2,8 +2,8 @@
 
 KIND is `proved` or `host`: a proved program has no status and says nothing when all went well; the C program ends with 1 when
 a read or a write failed, and prints its tally when none did. NAME is what it calls itself. PRELOAD is VARIABLE=LIBRARY, which
-makes it run with the library of tests/lib/interrupted.c. The variable CLOSED_PIPE has the words that start the program of
-tests/lib/closed_pipe.c in the same way. Prints a line for each case, and ends with 1 if any is wrong.
+makes it run with the library of tests/lib/interrupted.c, which has variables of its own. The variable CLOSED_PIPE has the words
+that start the program of tests/lib/closed_pipe.c in the same way. Prints a line for each case, and ends with 1 if any is wrong.
 """
 import fcntl
 import os
@@ -155,9 +155,9 @@ def file_with(content):
     return file
 
 
-def answers_of(content):
+def answers_of(content, **settings):
     with file_with(content) as file:
-        run = Run(stdin=file)
+        run = Run(stdin=file, **settings)
         answers = run.take()
         run.end_well()
     return answers
@@ -209,6 +209,33 @@ def single_bytes():
     same(answers, EXPECTED[:3 * ANSWER])
 
 
+def preloaded(**variables):
+    """The environment in which reads and writes are those of the library."""
+    variable, library = PRELOAD.split('=')
+    return {variable: library, **variables}
+
+
+def one_byte_reads():
+    """So many reads that no count of them is a bound, with one byte each."""
+    same(answers_of(DATA, environment=preloaded(READ_AT_MOST='1')), EXPECTED)
+
+
+def million():
+    """So many requests that no count of them is a bound, among them some of each kind: the same ones over and over."""
+    few = b''.join(struct.pack('<I100x', event) for event in range(1000)) + DATA[:20 * REQUEST]
+    due = 2 * answers_of(few)
+    times = 1_100_000 * REQUEST // len(few)
+    run = Run()
+    run.feed([few] * times)
+    taken = 0
+    while piece := run.take(1 << 16):
+        at = taken % (len(due) // 2)
+        expect(piece == due[at:at + len(piece)], f'wrong in the {len(piece)} bytes of answers behind the first {taken}')
+        taken += len(piece)
+    run.end_well()
+    expect(taken == times * len(due) // 2, f'{taken} bytes of answers, and {times * len(due) // 2} are due')
+
+
 def served():
     """Each answer comes before the next request is given; then the same with half of the next one there already."""
     run = Run()
@@ -237,10 +264,14 @@ def narrow_pipe():
     same(answers, EXPECTED)
 
 
+def one_byte_writes():
+    """So many writes for what one read brought that no count of them is a bound."""
+    same(answers_of(4 * DATA[:300 * REQUEST], environment=preloaded(WRITE_AT_MOST='1')), 4 * EXPECTED[:300 * ANSWER])
+
+
 def interrupted():
-    variable, library = PRELOAD.split('=')
     for start in range(1, 9):
-        run = Run(environment={variable: library, 'INTERRUPTED': str(start)})
+        run = Run(environment=preloaded(INTERRUPTED=str(start)))
         run.feed([DATA])
         answers = run.take()
         run.end_well()
@@ -268,14 +299,36 @@ def full_device():
         run.end_failed('write', 0)
 
 
-def file_too_large():
-    """The last write that succeeds is short, and ends within an answer."""
-    with tempfile.TemporaryFile() as out:
-        run = Run(stdout=out, file_size=10 * ANSWER + 50)
-        run.feed([DATA])
-        run.end_failed('write', 10)
+def into_file(length, size):
+    """The answers to so many bytes, into a file of so many at most: what does not go into it is told."""
+    due = EXPECTED[:-(-length // REQUEST) * ANSWER]
+    with file_with(DATA[:length]) as file, tempfile.TemporaryFile() as out:
+        run = Run(stdin=file, stdout=out, file_size=size)
+        if size < len(due):
+            run.end_failed('write', size // ANSWER)
+        else:
+            run.end_well()
         out.seek(0)
-        same(out.read(), EXPECTED[:10 * ANSWER + 50])
+        same(out.read(), due[:size])
+
+
+def file_too_large():
+    """The last write that succeeds is short, or whole if the next has no room. It ends within an answer, or behind whole ones; the
+    answers to whole requests are one write, and that to a last part is another."""
+    for whole in (10, 299):
+        for size in (whole * ANSWER, whole * ANSWER + 50, whole * ANSWER + ANSWER - 1):
+            into_file(300 * REQUEST, size)
+            into_file(len(DATA), size)
+
+
+def file_too_large_for_last():
+    for size in (300 * ANSWER, 300 * ANSWER + 1, 300 * ANSWER + 50, 301 * ANSWER - 1):
+        into_file(len(DATA), size)
+
+
+def file_just_right():
+    into_file(300 * REQUEST, 300 * ANSWER)
+    into_file(len(DATA), 301 * ANSWER)
 
 
 def until_closed(**settings):
@@ -350,12 +403,17 @@ CASES = [
     ('an empty one', empty),
     ('input in pieces of random length', short_reads),
     ('input byte by byte', single_bytes),
+    ('reads of one byte each', one_byte_reads),
+    ('more than a million requests', million),
     ('a slow pipe is served', served),
     ('a narrow pipe, read in pieces of random length', narrow_pipe),
+    ('writes of one byte each', one_byte_writes),
     ('reads and writes interrupted or short', interrupted),
     ('stopped and continued', stopped),
     ('a full device', full_device),
     ('a file that may not grow', file_too_large),
+    ('a file with no room for the last answer', file_too_large_for_last),
+    ('a file with just enough room', file_just_right),
     ('a closed pipe', closed_pipe),
     ('a closed pipe, by its signal', closed_pipe_signal),
     ('a directory as input', directory),
@@ -367,7 +425,7 @@ CASES = [
 
 
 # They start the program with a signal ignored, and have shown nothing where that does not reach it.
-WITH_IGNORED = (file_too_large, closed_pipe)
+WITH_IGNORED = (file_too_large, file_too_large_for_last, closed_pipe)
 
 
 def drops_ignored():

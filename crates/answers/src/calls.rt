@@ -6,13 +6,14 @@ use libc::STDERR_FILENO;
 use libc::STDIN_FILENO;
 use libc::STDOUT_FILENO;
 use stdio::Outcome;
+use stdio::Writing;
 use stdio::outcome_of;
 use stdio::to_write;
 use stdio::wrote;
 ghost use Prim.Native.Nat.{_≤_};
 ghost use lib.ListN.{length};
 ghost use Rattle.float.specs.Width.{F};
-ghost use Rattle.stdio.specs.Calls.{ReadBehind};
+ghost use Rattle.stdio.specs.Calls.{Ended, ReadBehind};
 ghost use Rattle.answers.specs.Buffers.{Large, room};
 
 // What failed, and how many answers went out whole, in one line.
@@ -31,9 +32,9 @@ pub(crate) fn read(buf: &mut [u8], have: usize) -> Outcome
     outcome_of(got, ROOM - have, os::errno() == EINTR)
 }
 
-// Writes all, and says how many bytes went out: fewer only if a write failed.
-pub(crate) fn put(out: &[u8]) -> usize
-    ensures { λ r. ⌜ r ≤ length (now (out .entry)) ⌝ }
+// Writes all, until no call follows: fewer bytes are written than there are only if a write failed.
+pub(crate) fn put(out: &[u8]) -> Writing
+    ensures { λ w. ⌜ Ended (length (now (out .entry))) w ⌝ }
 {
     let end = out.len();
     let mut w = to_write(end);
@@ -42,5 +43,5 @@ pub(crate) fn put(out: &[u8]) -> usize
         let got = libc::write(STDOUT_FILENO, &out[from..]);
         w = wrote(w, end, outcome_of(got, end - from, os::errno() == EINTR));
     }
-    w.written
+    w
 }

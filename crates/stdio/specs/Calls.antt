@@ -35,6 +35,10 @@ wroteOf w end Nothing = record { written = w .written; calls = 0 }
 wroteOf w end Interrupted = record { written = w .written; calls = w .calls - 1 }
 wroteOf w end Failed = record { written = w .written; calls = 0 }
 
+-- no call follows, and no more than there was is written
+abbrev pub Ended : ℕ → Writing → Type 0
+Ended end w = (w .calls ≡ 0) × (w .written ≤ end)
+
 -- a call moves no more than it was handed
 abbrev pub AtMost : ℕ → Outcome → Type 0
 AtMost most (Bytes n) = n ≤ most
