@@ -216,12 +216,13 @@ def preloaded(**variables):
 
 
 def one_byte_reads():
-    """So many reads that no count of them is a bound, with one byte each."""
+    """More than 30,000 reads: a program that counts its rounds, and gives up after some thousands, shows it."""
     same(answers_of(DATA, environment=preloaded(READ_AT_MOST='1')), EXPECTED)
 
 
 def million():
-    """So many requests that no count of them is a bound, among them some of each kind: the same ones over and over."""
+    """The same requests over and over, most of no kind, so that they take little time: a program that counts its answers, and
+    gives up after a million, shows it."""
     few = b''.join(struct.pack('<I100x', event) for event in range(1000)) + DATA[:20 * REQUEST]
     due = 2 * answers_of(few)
     times = 1_100_000 * REQUEST // len(few)
@@ -265,7 +266,7 @@ def narrow_pipe():
 
 
 def one_byte_writes():
-    """So many writes for what one read brought that no count of them is a bound."""
+    """More than 60,000 writes for what one read brought: a program that gives up after some thousands shows it."""
     same(answers_of(4 * DATA[:300 * REQUEST], environment=preloaded(WRITE_AT_MOST='1')), 4 * EXPECTED[:300 * ANSWER])
 
 

@@ -23,7 +23,7 @@ pub enum MatrixTriangle {
 
 #[derive(Clone, Copy, Debug, PartialEq)]
 pub enum DenseFactorizationError {
-    /// The number of the pivot that is not above zero.
+    /// The number of the pivot that is at most zero.
     Cholesky(i32),
 }
 
