@@ -1,5 +1,5 @@
 -- What came stands behind the kept bytes, within the room, and is served with them.
-use Rattle.float.proofs.Words.{subst, refl, _-_, _≤_, arith, needs}
+use Rattle.float.proofs.Words.{subst, refl, _-_, _≤_, needs}
 use Rattle.float.specs.Width.{F}
 use Rattle.stdio.specs.Calls.{AtMost}
 use Rattle.answers.specs.Buffers.{room}
