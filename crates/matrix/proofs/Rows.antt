@@ -38,11 +38,8 @@ not-given {X} {R} {k} {n} g h = ⊎-elim (λ (x : X × (k ≡ n)). absurd (h (x 
 pub one-number : (rs : List Row) (k m : ℕ) → Gives rs k → Gives rs m → k ≡ m
 one-number [] k m g h = g ∙ sym h
 one-number (r ∷ rs) k m g h =
-    ⊎-elim (λ (x : r .Holds × (k ≡ r .number)). ⊎-elim (λ (y : r .Holds × (m ≡ r .number)). x .1 ∙ sym (y .1))
-    (λ (y : (r .Holds → ⊥) × Gives rs m). absurd (y .0 (x .0))) h)
-    (λ (x : (r .Holds → ⊥) × Gives rs k). ⊎-elim (λ (y : r .Holds × (m ≡ r .number)). absurd (x .0 (y .0)))
-    (λ (y : (r .Holds → ⊥) × Gives rs m). one-number rs k m (x .1) (y .1)) h)
-    g
+    ⊎-elim (λ (x : r .Holds × (k ≡ r .number)). x .1 ∙ sym (taken-row h (x .0)))
+    (λ (x : (r .Holds → ⊥) × Gives rs k). one-number rs k m (x .1) (passed-row h (x .0))) g
 
 -- ---- the tests of the code decide the conditions
 

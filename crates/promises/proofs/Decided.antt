@@ -13,19 +13,19 @@ use Rattle.promises.proofs.Scope.{number-length, request-length, three-
 
 -- ---- 3
 
-told : {X : Type 0} → X → Decides true X
-told x = ((λ _. x), (λ q. absurd (true≢false q)))
+holds : {X : Type 0} → X → Decides true X
+holds x = ((λ _. x), (λ q. absurd (true≢false q)))
 
-refuted : {X : Type 0} → (X → ⊥) → Decides false X
-refuted n = ((λ q. absurd (false≢true q)), (λ _. n))
+fails : {X : Type 0} → (X → ⊥) → Decides false X
+fails n = ((λ q. absurd (false≢true q)), (λ _. n))
 
 pub by-kind : (n : ℕ) → Decides (not (knownKind n)) (NoKind n)
 by-kind =
-    let listed : (k : ℕ) → 1 ≤ k → k ≤ 8 → Decides false (NoKind k) = λ k l m. refuted (λ h. h (l, m)) in
-    each-number (λ (n : ℕ). Decides (not (knownKind n)) (NoKind n)) (told (λ h. omega (arith, h .0)))
+    let listed : (k : ℕ) → 1 ≤ k → k ≤ 8 → Decides false (NoKind k) = λ k l m. fails (λ h. h (l, m)) in
+    each-number (λ (n : ℕ). Decides (not (knownKind n)) (NoKind n)) (holds (λ h. omega (arith, h .0)))
     (listed 1 (omega arith) (omega arith)) (listed 2 (omega arith) (omega arith)) (listed 3 (omega arith) (omega arith)) (listed 4 (omega arith) (omega arith))
     (listed 5 (omega arith) (omega arith)) (listed 6 (omega arith) (omega arith)) (listed 7 (omega arith) (omega arith)) (listed 8 (omega arith) (omega arith))
-    (λ n. rw (past-eight n) (told (λ h. omega (arith, h .1))))
+    (λ n. rw (past-eight n) (holds (λ h. omega (arith, h .1))))
 
 -- ---- 4
 

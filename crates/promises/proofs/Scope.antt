@@ -114,10 +114,10 @@ made-in f s = rw (in-table (kindOf s) .2, given-asked f s)
 
 -- ---- rotations are counted
 
-not-so : {X : Type 0} → false ≡ true → X
-not-so q = absurd (false≢true q)
+uncounted : {X : Type 0} → false ≡ true → X
+uncounted q = absurd (false≢true q)
 
 pub counts-turned : (n : ℕ) → kindNumbered n .counts ≡ true → Turned n
 counts-turned =
-    each-number (λ (n : ℕ). kindNumbered n .counts ≡ true → Turned n) not-so not-so (λ _. inl refl) not-so (λ _. inr refl) not-so not-so not-so not-so
-    (λ n. rw (past-eight n) not-so)
+    each-number (λ (n : ℕ). kindNumbered n .counts ≡ true → Turned n) uncounted uncounted (λ _. inl refl) uncounted (λ _. inr refl) uncounted uncounted uncounted uncounted
+    (λ n. rw (past-eight n) uncounted)

@@ -32,8 +32,8 @@ module _ (f : Format) (s a : List ℕ) (c : ℕ) (g : Gives (rows f s a) c) wher
   abbrev pub Sizes : Type 0
   Sizes = (length a ≡ answerLength f) × (length s ≡ requestLength f)
 
-  abbrev pub Kind : Type 0
-  Kind = (1 ≤ kindIn s) × (kindIn s ≤ 8)
+  abbrev pub Listed : Type 0
+  Listed = (1 ≤ kindIn s) × (kindIn s ≤ 8)
 
   abbrev pub Zeros : Type 0
   Zeros = (i : ℕ) → Unused f (kindIn s) i → getD s i 0 ≡ 0
@@ -47,16 +47,16 @@ module _ (f : Format) (s a : List ℕ) (c : ℕ) (g : Gives (rows f s a) c) wher
   past-sizes : Sizes → Gives (drop 2 (rows f s a)) c
   past-sizes z = passed-row (passed-row g (λ w. w (z .0))) (λ w. w (z .1))
 
-  past-kind : Sizes → Kind → Gives (drop 3 (rows f s a)) c
+  past-kind : Sizes → Listed → Gives (drop 3 (rows f s a)) c
   past-kind z k = passed-row (past-sizes z) (λ w. w k)
 
-  past-zeros : Sizes → Kind → Zeros → Gives (drop 4 (rows f s a)) c
+  past-zeros : Sizes → Listed → Zeros → Gives (drop 4 (rows f s a)) c
   past-zeros z k u = passed-row (past-kind z k) (λ w. w u)
 
-  past-used : Sizes → Kind → Zeros → AllFinite (usedIn f s) → Gives (drop 5 (rows f s a)) c
+  past-used : Sizes → Listed → Zeros → AllFinite (usedIn f s) → Gives (drop 5 (rows f s a)) c
   past-used z k u n = passed-row (past-zeros z k u) (λ w. w n)
 
-  past-pivots : Sizes → Kind → Zeros → AllFinite (usedIn f s) → AllAbove (pivotsIn f s) → Gives (drop 6 (rows f s a)) c
+  past-pivots : Sizes → Listed → Zeros → AllFinite (usedIn f s) → AllAbove (pivotsIn f s) → Gives (drop 6 (rows f s a)) c
   past-pivots z k u n p = passed-row (past-used z k u n) (λ w. w p)
 
   pub two-told : (length a ≡ answerLength f → ⊥) → c ≡ 2
@@ -68,21 +68,21 @@ module _ (f : Format) (s a : List ℕ) (c : ℕ) (g : Gives (rows f s a) c) wher
   pub three-told : Sizes → (kindIn s ≡ 0) ⊎ (8 < kindIn s) → c ≡ 3
   three-told z h = taken-row (past-sizes z) (λ k. ⊎-elim (λ (e : kindIn s ≡ 0). omega (arith, k .0)) (λ (l : 8 < kindIn s). omega (arith, k .1)) h)
 
-  pub four-told : Sizes → Kind → (i : ℕ) → Unused f (kindIn s) i → (getD s i 0 ≡ 0 → ⊥) → c ≡ 4
+  pub four-told : Sizes → Listed → (i : ℕ) → Unused f (kindIn s) i → (getD s i 0 ≡ 0 → ⊥) → c ≡ 4
   four-told z k i u h = taken-row (past-kind z k) (λ w. h (w i u))
 
-  pub five-told : Sizes → Kind → Zeros → (i : ℕ) → i < length (usedIn f s) → finite (at (usedIn f s) i) ≡ false → c ≡ 5
+  pub five-told : Sizes → Listed → Zeros → (i : ℕ) → i < length (usedIn f s) → finite (at (usedIn f s) i) ≡ false → c ≡ 5
   five-told z k u i l h = taken-row (past-zeros z k u) (λ w. true≢false (sym (w i l) ∙ h))
 
-  pub six-told : Sizes → Kind → Zeros → AllFinite (usedIn f s) → (i : ℕ) → i < length (pivotsIn f s) → le (at (pivotsIn f s) i) (zeroF f) ≡ true → c ≡ 6
+  pub six-told : Sizes → Listed → Zeros → AllFinite (usedIn f s) → (i : ℕ) → i < length (pivotsIn f s) → le (at (pivotsIn f s) i) (zeroF f) ≡ true → c ≡ 6
   six-told z k u n i l h = taken-row (past-used z k u n) (λ w. false≢true (sym (w i l) ∙ h))
 
-  pub seven-told : Sizes → Kind → Zeros → AllFinite (usedIn f s) → AllAbove (pivotsIn f s)
+  pub seven-told : Sizes → Listed → Zeros → AllFinite (usedIn f s) → AllAbove (pivotsIn f s)
       → (i : ℕ) → i < length (madeIn f s) → finite (at (madeIn f s) i) ≡ false → c ≡ 7
   seven-told z k u n p i l h = taken-row (past-pivots z k u n p) (λ w. true≢false (sym (w i l) ∙ h))
 
   -- none of the rest: the sizes and the kind are right, what is to be zero is zero, and every number, given or made, is finite
-  pub zero-told : c ≡ 0 → Sizes × Kind × Zeros × AllFinite (usedIn f s) × AllAbove (pivotsIn f s) × AllFinite (madeIn f s)
+  pub zero-told : c ≡ 0 → Sizes × Listed × Zeros × AllFinite (usedIn f s) × AllAbove (pivotsIn f s) × AllFinite (madeIn f s)
   zero-told e =
       let r2 = not-given g (λ q. omega (arith, e)) in
       let r1 = not-given (r2 .1) (λ q. omega (arith, e)) in
@@ -99,5 +99,5 @@ module _ (f : Format) (s a : List ℕ) (c : ℕ) (g : Gives (rows f s a) c) wher
         (λ i l. so _ (λ k. r7 .0 (λ w. k (w i l)))),
       )
     where
-      kind : ((Kind → ⊥) → ⊥) → Kind
+      kind : ((Listed → ⊥) → ⊥) → Listed
       kind h = (le-unless 1 (kindIn s) (λ l. h (λ k. omega (arith, k .0))), le-unless (kindIn s) 8 (λ l. h (λ k. omega (arith, k .1))))
