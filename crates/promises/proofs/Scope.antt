@@ -1,5 +1,5 @@
 -- The scope's numbers, written out, are those of the layout and of the table of kinds: each format and each kind is looked at.
-use Rattle.float.proofs.Words.{_≡_, refl, sym, ap, _∙_, Bool, true, false, false≢true, _&&_, List, [], _∷_, ℕ, zero, suc, _+_, _*_, _<_, arith, eqb, take, drop}
+use Rattle.float.proofs.Words.{_≡_, refl, sym, ap, _∙_, true, false, false≢true, List, [], _∷_, ℕ, zero, suc, _+_, _*_, _<_, arith, eqb, take, drop}
 use Rattle.float.proofs.Words.{inl, inr, Format, binary32, binary64, ofBits, ne-eqb}
 use Rattle.float.specs.Sign.{allFinite}
 use Rattle.float.proofs.Finite.{all-finite-append}
@@ -101,8 +101,7 @@ used-finite f s =
     let three : numbersIn f (threeBegin f) (usedThree (kindOf s)) s ≡ firstOf (k .three) (numbersFrom f 3 (threeAt f) s) =
     ap (λ (n : ℕ). numbersIn f (threeBegin f) n s) (t .1) ∙ ap (λ (a : ℕ). numbersIn f a (k .three) s) (three-begin f)
     ∙ numbers-in f (threeAt f) (k .three) s ∙ sym (first-tabulate (k .three) 3 _ (three-most (kindOf s))) in
-    sym (all-finite-append _ _ ∙ ap (λ (t : Bool). t && allFinite (numbersIn f (threeBegin f) (usedThree (kindOf s)) s)) (ap allFinite nine)
-    ∙ ap (λ (t : Bool). allFinite (firstOf (k .nine) (numbersFrom f 9 nineAt s)) && t) (ap allFinite three))
+    rw (all-finite-append (numbersIn f 8 (usedNine (kindOf s)) s) (numbersIn f (threeBegin f) (usedThree (kindOf s)) s), nine, three)
 
 -- ---- pivots and numbers made
 
@@ -119,5 +118,5 @@ uncounted q = absurd (false≢true q)
 
 pub counts-turned : (n : ℕ) → kindNumbered n .counts ≡ true → Turned n
 counts-turned =
-    each-number (λ (n : ℕ). kindNumbered n .counts ≡ true → Turned n) uncounted uncounted (λ _. inl refl) uncounted (λ _. inr refl) uncounted uncounted uncounted uncounted
-    (λ n. rw (past-eight n) uncounted)
+    let P : ℕ → Type 0 = λ (n : ℕ). kindNumbered n .counts ≡ true → Turned n in
+    each-number P uncounted uncounted (λ _. inl refl) uncounted (λ _. inr refl) uncounted uncounted uncounted uncounted (λ n. rw (past-eight n) uncounted)
