@@ -1,6 +1,6 @@
--- The answer of every kind: its sizes, only a code and a pivot's number where the code is not 0, and no code 5 over finite numbers.
+-- The answer of every kind: its sizes, only a code and a pivot's number where the code is not 0, its count and its mark, and no code 5 over finite numbers.
 -- Each kernel owes this of its answer.
-use Rattle.float.proofs.Words.{_≡_, refl, sym, ap, _∙_, subst⁻¹, Bool, true, false, ℕ, arith, eqb, length, Format, ne-eqb}
+use Rattle.float.proofs.Words.{_≡_, refl, sym, ap, _∙_, subst⁻¹, Bool, true, false, true≢false, ℕ, arith, eqb, length, Format, ne-eqb}
 use Rattle.float.specs.Sign.{allFinite}
 use Rattle.float.proofs.Choice.{chosen, by-eqb}
 use Rattle.float.proofs.Finite.{both-true, append-passes}
@@ -9,12 +9,16 @@ use Rattle.matrix.proofs.Owed.{not-five}
 use Rattle.cholesky.specs.Factor.{FactorAnswer}
 use Rattle.cholesky.proofs.Rows.{factor2-unstopped, factor3-unstopped, solved2-unstopped, solved3-unstopped}
 use Rattle.cholesky.proofs.Owed.{factor2-owed, factor3-owed, solved2-owed, solved3-owed}
+use Rattle.eigen.proofs.Answered as eigen
 use Rattle.eigen.proofs.Owed.{eigen2-owed, eigen3-owed}
+use Rattle.eigen.specs.declared.eigen2x2.Eigen2.{Eigen2}
 use Rattle.eigen.specs.declared.eigen3x3.Eigen3.{Eigen3}
+use Rattle.svd.proofs.Answered as svd
 use Rattle.svd.proofs.Owed.{svd2-owed, svd3-owed}
+use Rattle.svd.specs.declared.svd2x2.Svd2.{Svd2}
 use Rattle.svd.specs.declared.svd3x3.Svd3.{Svd3}
 use Rattle.kinds.specs.Table.{kindNumbered}
-use Rattle.kinds.specs.Work.{firstOf, refusedKind, fromEigen2, fromEigen3, fromSvd2, fromSvd3, fromFactor, fromSolved, usedFinite}
+use Rattle.kinds.specs.Work.{firstOf, markOf, doneMark, refusedKind, fromEigen2, fromEigen3, fromSvd2, fromSvd3, fromFactor, fromSolved, usedFinite}
 use Rattle.kinds.specs.Work.{answeredBy, workOf}
 use Rattle.kinds.specs.declared.table.Kind.{Kind}
 use Rattle.kinds.specs.declared.work.Asked.{Asked}
@@ -95,6 +99,29 @@ work-uncounted f a =
     (factor-uncounted f 6 _ (factor3-unstopped f (zeros f 6) (firstOf 6 nine)))
     (λ n _. solved2-unstopped f (firstOf 3 nine) (firstOf 2 three) n)
     (λ n _. solved3-unstopped f (firstOf 6 nine) (firstOf 3 three) n)
+    (a .kind)
+
+-- ---- with code 0 byte 7 is 1, but for a kind that counts rotations, whose mark is that of its run
+
+abbrev pub Marked : Bool → Worked → Type 0
+Marked counts w = w .code ≡ 0 → counts ≡ false → w .settled ≡ 1
+
+factor-marked : (f : Format) (s : ℕ) (r : FactorAnswer) → Marked false (fromFactor f s r)
+unfolding fromFactor
+factor-marked f s r = by-eqb (Marked false) (r .code) 0 _ _ (λ _ _ _. refl) (λ n c _. absurd (n c))
+
+pub work-marked : (f : Format) (a : Asked) → Marked (kindNumbered (a .kind) .counts) (workOf f a)
+unfolding answeredBy
+work-marked f a =
+    each-kind (λ (k : Kind). Marked (k .counts) (answeredBy f (k .kernel) a)) (λ c _. absurd (omega arith))
+    (λ c _. ap (λ (r : Eigen2). markOf (r .settled)) (eigen.answered2 f (firstOf 3 (a .nine)) c .answer))
+    (λ _ q. absurd (true≢false q))
+    (λ c _. ap (λ (r : Svd2). markOf (r .settled)) (svd.answered2 f (firstOf 4 (a .nine)) c .answer))
+    (λ _ q. absurd (true≢false q))
+    (factor-marked f 3 _)
+    (factor-marked f 6 _)
+    (λ c _. ap doneMark c)
+    (λ c _. ap doneMark c)
     (a .kind)
 
 -- ---- over finite numbers: not 5

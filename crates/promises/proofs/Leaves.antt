@@ -9,26 +9,22 @@ use Rattle.float.proofs.Choice.{chosen, by-eqb}
 use Rattle.kinds.specs.Table.{kindNumbered, knownKind}
 use Rattle.kinds.specs.Work.{refusedKind, usedFinite, workOf}
 use Rattle.kinds.specs.declared.work.Worked.{Worked}
-use Rattle.kinds.proofs.Works.{Uncounted, work-uncounted}
+use Rattle.kinds.proofs.Works.{Uncounted, work-uncounted, work-marked}
 use Rattle.wire.specs.Bytes.{numberBytesOf}
 use Rattle.record.specs.Layout.{eventBytes, requestSize, codeAt, countAt, markAt, answerSize}
 use Rattle.record.specs.Request.{kindOf, askedOf, reservedZero, unusedZero, formOf, judgedOf}
 use Rattle.record.specs.Answer.{recordOf, Step, recordStepOf}
-use Rattle.record.proofs.Answers.{with-room, wrong-size, no-room, answer-size, code-in-place, refused-unmarked, refused-clear}
+use Rattle.record.proofs.Answers.{with-room, wrong-size, no-room, answer-size, head-byte, code-in-place, refused-unmarked, refused-clear}
 use Rattle.record.proofs.answer.zanikory_answer_record.Reads as answer-record
 use Rattle.cholesky.specs.Pivots.{oneAtMostZero, refusedPivot}
 use Rattle.promises.specs.Conditions.{pivotsIn, madeIn}
 use Rattle.promises.specs.Leaves.{Not, Turned, Leaves}
 use Rattle.promises.specs.Scope.{answerLength}
-use Rattle.promises.proofs.Scope.{answer-length, counts-turned}
+use Rattle.promises.proofs.Scope.{answer-length, counts-turned, unturned}
 use Rattle.promises.proofs.Codes.{judged-code}
 use Rattle.promises.proofs.Pivots.{pivot-given}
 
 -- ---- the head of a record
-
-record-count : (f : Format) (event : List ℕ) (kind : ℕ) (w : Worked) → length event ≡ eventBytes → getD (recordOf f event kind w) countAt 0 ≡ w .count
-unfolding recordOf
-record-count f event kind w h = ap (λ (k : ℕ). getD (recordOf f event kind w) (k + 2) 0) (sym h) ∙ getD-append-add event _ 2 0
 
 record-event : (f : Format) (s : List ℕ) (w : Worked) → length s ≡ requestSize f → take codeAt (recordOf f (take eventBytes s) (kindOf s) w) ≡ take codeAt s
 unfolding recordOf
@@ -62,6 +58,15 @@ module _ (f : Format) (s : List ℕ) where
       chosen P (eqb (formOf f s) 0) (pick (usedFinite (askedOf f s)) (workOf f (askedOf f s)) (refusedKind f 5 0)) (refusedKind f (formOf f s) 0)
       (chosen P (usedFinite (askedOf f s)) (workOf f (askedOf f s)) (refusedKind f 5 0) (work-uncounted f (askedOf f s)) (λ _ _. refl)) (λ _ _. refl)
 
+  judged-marked : judgedOf f s .code ≡ 0 → (Turned (kindOf s) → ⊥) → judgedOf f s .settled ≡ 1
+  unfolding judgedOf
+  judged-marked e n =
+      let P : Worked → Type 0 = λ (w : Worked). w .code ≡ 0 → w .settled ≡ 1 in
+      by-eqb P (formOf f s) 0 (pick (usedFinite (askedOf f s)) (workOf f (askedOf f s)) (refusedKind f 5 0)) (refusedKind f (formOf f s) 0)
+      (λ _. chosen P (usedFinite (askedOf f s)) (workOf f (askedOf f s)) (refusedKind f 5 0) (λ c. work-marked f (askedOf f s) c (unturned (kindOf s) n))
+      (λ c. absurd (omega arith)))
+      (λ k c. absurd (k c)) e
+
 -- ---- any slices
 
 module _ (f : Format) (s a : List ℕ) (room : length a ≡ answerSize f) where
@@ -79,8 +84,9 @@ module _ (f : Format) (s a : List ℕ) (room : length a ≡ answerSize f) where
   headed : (event : Not 1 code → take codeAt left ≡ take codeAt s) (unread : code ≡ 1 → take codeAt left ≡ replicate codeAt 0) → Not 2 code
       → (pivot : code ≡ 6 → getD left countAt 0 ≡ refusedPivot f 1 (pivotsIn f s))
       → (Not 6 code → ((code ≡ 0) × Turned (kindOf s) → ⊥) → getD left countAt 0 ≡ 0)
+      → (settled : code ≡ 0 → (Turned (kindOf s) → ⊥) → getD left markAt 0 ≡ 1)
       → Leaves f s a code left
-  headed event unread n pivot uncounted = record {
+  headed event unread n pivot uncounted settled = record {
     untouched = (λ e. absurd (n e));
     size = (λ _. answer-size f s a room ∙ sym (answer-length f));
     coded = (λ _. code-in-place f s a room);
@@ -88,6 +94,7 @@ module _ (f : Format) (s a : List ℕ) (room : length a ≡ answerSize f) where
     unread = unread;
     pivot = pivot;
     uncounted = (λ _. uncounted);
+    settled = settled;
     unmarked = (λ _ k. mark-of ∙ ap (λ (l : List ℕ). getD l 0 0) (refused-unmarked f s a room k));
     clear = (λ _ k. rw (answer-length f) (refused-clear f s a room k));
   }
@@ -100,13 +107,14 @@ answered f s a room size =
     let e = with-room f s a room size in
     let same = ap (λ (t : Step). t .code) e in
     let event-size = length-take-le eventBytes s (omega arith) in
-    let count : getD (recordStepOf f s a .answer) countAt 0 ≡ judgedOf f s .count =
-    ap (λ (t : Step). getD (t .answer) countAt 0) e ∙ record-count f (take eventBytes s) (kindOf s) (judgedOf f s) event-size in
+    let count = ap (λ (t : Step). getD (t .answer) countAt 0) e ∙ head-byte f (take eventBytes s) (kindOf s) (judgedOf f s) 2 event-size in
+    let mark = ap (λ (t : Step). getD (t .answer) markAt 0) e ∙ head-byte f (take eventBytes s) (kindOf s) (judgedOf f s) 3 event-size in
     headed f s a room (λ _. ap (λ (t : Step). take codeAt (t .answer)) e ∙ record-event f s (judgedOf f s) size)
     (λ k. absurd (judged-past-sizes f s .0 (sym same ∙ k)))
     (λ k. judged-past-sizes f s .1 (sym same ∙ k))
     (λ k. count ∙ pivot-given f s (sym same ∙ k))
     (λ k c. count ∙ judged-uncounted f s (λ q. k (same ∙ q)) (λ q. c (same ∙ q .0, counts-turned (kindOf s) (q .1))))
+    (λ k n. mark ∙ judged-marked f s (sym same ∙ k) n)
 
 unread : (f : Format) (s a : List ℕ) → length a ≡ answerSize f → (length s ≡ requestSize f → ⊥)
     → Leaves f s a (recordStepOf f s a .code) (recordStepOf f s a .answer)
@@ -115,7 +123,7 @@ unread f s a room size =
     let e = wrong-size f s a room size in
     let c = ap (λ (t : Step). t .code) e in
     headed f s a room (λ n. absurd (n c)) (λ _. ap (λ (t : Step). take codeAt (t .answer)) e) (λ k. absurd (omega (arith, c)))
-    (λ k. absurd (omega (arith, c))) (λ _ _. ap (λ (t : Step). getD (t .answer) countAt 0) e)
+    (λ k. absurd (omega (arith, c))) (λ _ _. ap (λ (t : Step). getD (t .answer) countAt 0) e) (λ k. absurd (omega (arith, c)))
 
 untouched : (f : Format) (s a : List ℕ) → (length a ≡ answerSize f → ⊥) → Leaves f s a (recordStepOf f s a .code) (recordStepOf f s a .answer)
 untouched f s a n =
@@ -129,6 +137,7 @@ untouched f s a n =
       unread = (λ k. absurd (omega (arith, c)));
       pivot = (λ k. absurd (omega (arith, c)));
       uncounted = (λ k. absurd (k c));
+      settled = (λ k. absurd (omega (arith, c)));
       unmarked = (λ k. absurd (k c));
       clear = (λ k. absurd (k c));
     }

@@ -28,6 +28,7 @@ pub record Leaves (f : Format) (request answer : List ℕ) (code : ℕ) (left : 
   -- byte 6 has with 6 the number of the first pivot that is at most zero, and with 0 the rotations of a kind that counts them; it is zero otherwise
   pub pivot : code ≡ 6 → getD left 6 0 ≡ refusedPivot f 1 (pivotsIn f request)
   pub uncounted : Not 2 code → Not 6 code → ((code ≡ 0) × Turned (kindIn request) → ⊥) → getD left 6 0 ≡ 0
-  -- the mark, byte 7, and all numbers are zero with any code but 0
+  -- the mark, byte 7, is 1 with 0 for a kind that is not turned; it and all numbers are zero with any code but 0
+  pub settled : code ≡ 0 → (Turned (kindIn request) → ⊥) → getD left 7 0 ≡ 1
   pub unmarked : Not 2 code → Not 0 code → getD left 7 0 ≡ 0
   pub clear : Not 2 code → Not 0 code → drop 8 left ≡ replicate (answerLength f - 8) 0

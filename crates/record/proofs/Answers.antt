@@ -1,12 +1,12 @@
 -- Every answer: its size, its code in its byte, zeros from the mark on where the code is not 0, and 5 only by the record's own test.
-use Rattle.float.proofs.Words.{_≡_, refl, sym, ap, _∙_, true, List, _∷_, _⊎_, inl, inr, ⊎-elim, ℕ, zero, suc, _+_, _-_, _*_, _≤_, mul-zero, mul-suc, arith, eqb}
-use Rattle.float.proofs.Words.{length, getD, take, drop, replicate, length-append, length-take, length-drop, replicate-append-replicate, length-take-le}
-use Rattle.float.proofs.Words.{getD-append-add, drop-append-add, drop-drop, Format, eq-eqb, ne-eqb}
+use Rattle.float.proofs.Words.{_≡_, refl, sym, ap, _∙_, true, List, _∷_, _++_, _⊎_, inl, inr, ⊎-elim, ℕ, zero, suc, _+_, _-_, _*_, _≤_, mul-zero, mul-suc}
+use Rattle.float.proofs.Words.{arith, eqb, length, getD, take, drop, replicate, length-append, length-take, length-drop, replicate-append-replicate}
+use Rattle.float.proofs.Words.{length-take-le, getD-append-add, drop-append-add, drop-drop, Format, eq-eqb, ne-eqb}
 use Rattle.float.proofs.Choice.{chosen, by-eqb}
 use Rattle.kinds.specs.Work.{refusedKind, usedFinite, workOf}
 use Rattle.kinds.proofs.Works.{Sized, work-sized, Clear, work-clear, work-five}
 use Rattle.kinds.specs.declared.work.Worked.{Worked}
-use Rattle.wire.specs.Bytes.{numberBytes}
+use Rattle.wire.specs.Bytes.{numberBytes, numberBytesOf}
 use Rattle.wire.proofs.Numbers.{numbers-length, zeros-bytes}
 use Rattle.record.specs.Layout.{eventBytes, numbersAt, requestSize, codeAt, markAt, answerSize}
 use Rattle.record.specs.Request.{kindOf, askedOf, formOf, judgedOf}
@@ -70,12 +70,15 @@ answer-size f s a h = each-record (λ (t : Step). length (t .answer) ≡ answerS
 
 -- ---- the code that is handed back stands in its byte, unless it is 2 and nothing is written
 
-record-code : (f : Format) (event : List ℕ) (kind : ℕ) (w : Worked) → length event ≡ eventBytes → getD (recordOf f event kind w) codeAt 0 ≡ w .code
+-- the bytes behind the event's number
+pub head-byte : (f : Format) (event : List ℕ) (kind : ℕ) (w : Worked) (i : ℕ) → length event ≡ eventBytes
+    → let numbers = numberBytesOf f (w .values) ++ (numberBytesOf f (w .left) ++ numberBytesOf f (w .right)) in
+    getD (recordOf f event kind w) (eventBytes + i) 0 ≡ getD (kind ∷ w .code ∷ w .count ∷ w .settled ∷ numbers) i 0
 unfolding recordOf
-record-code f event kind w h = ap (λ (k : ℕ). getD (recordOf f event kind w) (k + 1) 0) (sym h) ∙ getD-append-add event _ 1 0
+head-byte f event kind w i h = ap (λ (k : ℕ). getD (recordOf f event kind w) (k + i) 0) (sym h) ∙ getD-append-add event _ i 0
 
 pub code-in-place : (f : Format) (s a : List ℕ) → length a ≡ answerSize f → getD (recordStepOf f s a .answer) codeAt 0 ≡ recordStepOf f s a .code
-code-in-place f s a h = each-record (λ (t : Step). getD (t .answer) codeAt 0 ≡ t .code) f s a h (λ event kind w e _ _. record-code f event kind w e)
+code-in-place f s a h = each-record (λ (t : Step). getD (t .answer) codeAt 0 ≡ t .code) f s a h (λ event kind w e _ _. head-byte f event kind w 1 e)
 
 same? : (m n : ℕ) → (m ≡ n) ⊎ (m ≡ n → ⊥)
 same? m n = by-eqb {A = ℕ} (λ _. (m ≡ n) ⊎ (m ≡ n → ⊥)) m n 0 0 inl inr
