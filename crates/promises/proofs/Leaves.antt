@@ -1,6 +1,6 @@
 -- What is left is the slice as it was, the answer to a request of the wrong size, or the answer to a request: each is looked at byte by byte.
-use Rattle.float.proofs.Words.{_≡_, refl, sym, ap, _∙_, not, _&&_, List, [], _∷_, _++_, append-assoc, ℕ, _+_, _≤_, arith, eqb, length, getD, take, drop}
-use Rattle.float.proofs.Words.{replicate, length-append, take-append-drop, length-take-le, take-suc, take-at, drop-cons, getD-drop, getD-append-add, Format}
+use Rattle.float.proofs.Words.{_≡_, refl, sym, ap, _∙_, not, _&&_, List, [], _∷_, _++_, append-assoc, ℕ, _≤_, arith, eqb, length, getD, take, drop}
+use Rattle.float.proofs.Words.{replicate, length-append, take-append-drop, length-take-le, take-suc, take-at, drop-cons, getD-drop, Format}
 use contract.Lifetimes.{Lfts}
 use Rattle.float.specs.Width.{F}
 use Rattle.float.specs.Choice.{pick}
