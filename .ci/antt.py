@@ -1,5 +1,6 @@
 """How the gate's scripts read files of antt: tokens, what begins in a column, what a file brings, and which
 files are reached. What cannot be read is a fault."""
+import collections
 import os
 import re
 
@@ -92,14 +93,27 @@ def brought(line):
     return [(f'{path}.{words[0]}', words[-1].split('.')[-1]) for words in leaves]
 
 
-def items(text):
-    """What begins in the first column, up to the next that does."""
-    found, depth = [], 0
+Token = collections.namedtuple('Token', 'column text at')
+
+
+def placed(text):
+    """The tokens of a file, each with its column if a line begins with it outside of all brackets."""
+    depth, found = 0, []
     for at, token in antt(text):
-        if not found or depth == 0 and text[at - 1] == '\n':
+        start = text.rfind('\n', 0, at) + 1
+        first = depth == 0 and not text[start:at].strip()
+        found.append(Token(at - start if first else None, token, at))
+        depth += (token in OPENS) - (token in CLOSES)
+    return found
+
+
+def blocks(tokens, column):
+    """What begins in a column, up to the next that does."""
+    found = []
+    for token in tokens:
+        if token.column == column or not found:
             found.append([])
         found[-1].append(token)
-        depth += (token in OPENS) - (token in CLOSES)
     return found
 
 
@@ -111,7 +125,8 @@ class Proofs:
         self.declared, self.defined, self.other = {}, set(), None
         text = read(path)
         try:
-            for item in items(text):
+            for block in blocks(placed(text), 0):
+                item = [token.text for token in block]
                 self.tokens += item
                 self.add(item)
         except Unreadable as e:

@@ -1,7 +1,7 @@
 -- The laws of `run`, for any step and any test: each follows the rounds one by one.
 use Rattle.float.proofs.Words.{_≡_, refl, sym, ap, _∙_, subst⁻¹, Bool, true, false, false≢true, _⊎_, inl, inr, ℕ, zero, suc, _+_, _-_, _≤_, _<_, le-antisymm}
 use Rattle.float.proofs.Words.{arith}
-use Rattle.float.proofs.Choice.{either}
+use Rattle.float.proofs.Choice.{not-below}
 use Rattle.jacobi.specs.Run.{runFrom, run, after, Ran}
 
 module _ {S : Type 0} (step : S → S) (done : S → Bool) where
@@ -75,7 +75,7 @@ module _ {S : Type 0} (step : S → S) (done : S → Bool) where
 
   pub ran-one : {k n m : ℕ} {s r q : S} → Ran step done k s r n → Ran step done k s q m → (n ≡ m) × (r ≡ q)
   ran-one {k} {n} {m} {s} x y =
-      let e : n ≡ m = le-antisymm (either m n (λ l. absurd (not-sooner y x l)) (λ l. l)) (either n m (λ l. absurd (not-sooner x y l)) (λ l. l)) in
+      let e : n ≡ m = le-antisymm (not-below m n (not-sooner y x)) (not-below n m (not-sooner x y)) in
       (e, x .stands ∙ ap (λ (j : ℕ). after step done j s) e ∙ sym (y .stands))
 
   -- ---- a number that every step raises by one tells how many were made

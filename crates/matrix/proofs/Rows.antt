@@ -13,6 +13,12 @@ use Rattle.matrix.specs.Places.{at}
 abbrev pub Decides : Bool → Type 0 → Type 0
 Decides t X = (t ≡ true → X) × (t ≡ false → X → ⊥)
 
+pub decided : {X : Type 0} → X → Decides true X
+decided x = ((λ _. x), (λ q. absurd (true≢false q)))
+
+pub denied : {X : Type 0} → (X → ⊥) → Decides false X
+denied n = ((λ q. absurd (false≢true q)), (λ _. n))
+
 pub first-row : (t : Bool) (r : Row) (rs : List Row) (k : ℕ) → Decides t (r .Holds) → Gives rs k → Gives (r ∷ rs) (pick t (r .number) k)
 first-row true r rs k d g = inl (d .0 refl, refl)
 first-row false r rs k d g = inr (d .1 refl, g)
@@ -45,8 +51,8 @@ one-number (r ∷ rs) k m g h =
 
 -- a test that tells that X holds
 pub by-not : (t : Bool) (X : Type 0) → (t ≡ true → X) → (X → t ≡ true) → Decides (not t) (X → ⊥)
-by-not true X h k = ((λ q. absurd (false≢true q)), (λ _ w. w (h refl)))
-by-not false X h k = ((λ _ x. false≢true (k x)), (λ q. absurd (true≢false q)))
+by-not true X h k = denied (λ w. w (h refl))
+by-not false X h k = decided (λ x. false≢true (k x))
 
 pub by-length : {A : Type 0} (xs : List A) (n : ℕ) → Decides (not (eqb (length xs) n)) (WrongLength xs n)
 by-length xs n = by-not (eqb (length xs) n) (length xs ≡ n) (eqb-true (length xs) n) (eq-eqb (length xs) n)

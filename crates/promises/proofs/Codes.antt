@@ -62,8 +62,7 @@ module _ (f : Format) (s a : List ℕ) where
   pub codes : Gives (rows f s a) (recordStepOf f s a .code)
   codes =
       let r = rows f s a in
-      let c6 = later in
-      let c5 = pick (not (usedFinite (askedOf f s))) 5 c6 in
+      let c5 = pick (not (usedFinite (askedOf f s))) 5 later in
       let c4 = pick (not zero) 4 c5 in
       let c3 = pick (not (knownKind (kindOf s))) 3 c4 in
       let c1 = pick (not (eqb (length s) (requestSize f))) 1 c3 in
@@ -72,7 +71,7 @@ module _ (f : Format) (s a : List ℕ) where
       (first-row (not (eqb (length s) (requestSize f))) (on 1 (WrongLength s (requestLength f))) (drop 2 r) c3 (by-size s _ _ (request-length f))
       (first-row (not (knownKind (kindOf s))) (on 3 (NoKind (kindIn s))) (drop 3 r) c4 (by-kind (kindOf s))
       (first-row (not zero) (on 4 (NotZero f s)) (drop 4 r) c5 (by-zeros f s)
-      (first-row (not (usedFinite (askedOf f s))) (on 5 (NotFinite (usedIn f s))) (drop 5 r) c6 (by-used f s)
+      (first-row (not (usedFinite (askedOf f s))) (on 5 (NotFinite (usedIn f s))) (drop 5 r) later (by-used f s)
       (later-rows f (pivotsIn f s) (madeIn f s)))))))
 
 -- ---- any answer within the promise of the record step

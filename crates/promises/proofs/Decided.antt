@@ -1,8 +1,8 @@
 -- The tests of the code decide the conditions of rows 3, 4 and 5, which are the scope's own: number by number and byte by byte.
-use Rattle.float.proofs.Words.{_≡_, true, false, not, _&&_, true≢false, false≢true, List, _⊎_, inl, inr, ⊎-elim, ℕ, _≤_, arith, getD, Format}
+use Rattle.float.proofs.Words.{_≡_, false, not, _&&_, List, _⊎_, inl, inr, ⊎-elim, ℕ, _≤_, arith, getD, Format}
 use Rattle.float.proofs.Finite.{both-true}
 use Rattle.matrix.specs.Rows.{NotFinite}
-use Rattle.matrix.proofs.Rows.{Decides, by-not, by-finite}
+use Rattle.matrix.proofs.Rows.{Decides, decided, denied, by-not, by-finite}
 use Rattle.kinds.specs.Table.{kindNumbered, knownKind}
 use Rattle.kinds.specs.Work.{usedFinite}
 use Rattle.wire.specs.Bytes.{zeroFrom}
@@ -13,19 +13,13 @@ use Rattle.promises.proofs.Scope.{number-length, request-length, three-
 
 -- ---- 3
 
-holds : {X : Type 0} → X → Decides true X
-holds x = ((λ _. x), (λ q. absurd (true≢false q)))
-
-fails : {X : Type 0} → (X → ⊥) → Decides false X
-fails n = ((λ q. absurd (false≢true q)), (λ _. n))
-
 pub by-kind : (n : ℕ) → Decides (not (knownKind n)) (NoKind n)
 by-kind =
-    let listed : (k : ℕ) → 1 ≤ k → k ≤ 8 → Decides false (NoKind k) = λ k l m. fails (λ h. h (l, m)) in
-    each-number (λ (n : ℕ). Decides (not (knownKind n)) (NoKind n)) (holds (λ h. omega (arith, h .0)))
+    let listed : (k : ℕ) → 1 ≤ k → k ≤ 8 → Decides false (NoKind k) = λ k l m. denied (λ h. h (l, m)) in
+    each-number (λ (n : ℕ). Decides (not (knownKind n)) (NoKind n)) (decided (λ h. omega (arith, h .0)))
     (listed 1 (omega arith) (omega arith)) (listed 2 (omega arith) (omega arith)) (listed 3 (omega arith) (omega arith)) (listed 4 (omega arith) (omega arith))
     (listed 5 (omega arith) (omega arith)) (listed 6 (omega arith) (omega arith)) (listed 7 (omega arith) (omega arith)) (listed 8 (omega arith) (omega arith))
-    (λ n. rw (past-eight n) (holds (λ h. omega (arith, h .1))))
+    (λ n. rw (past-eight n) (decided (λ h. omega (arith, h .1))))
 
 -- ---- 4
 

@@ -5,7 +5,7 @@ use contract.Lifetimes.{Lfts}
 use Rattle.float.specs.Width.{F}
 use Rattle.float.specs.Choice.{pick}
 use Rattle.float.specs.Sign.{allFinite}
-use Rattle.float.proofs.Choice.{chosen, by-eqb}
+use Rattle.float.proofs.Choice.{chosen, by-eqb, whether}
 use Rattle.kinds.specs.Table.{kindNumbered, knownKind}
 use Rattle.kinds.specs.Work.{refusedKind, usedFinite, workOf}
 use Rattle.kinds.specs.declared.work.Worked.{Worked}
@@ -143,11 +143,7 @@ untouched f s a n =
     }
 
 pub leaves : (f : Format) (s a : List ℕ) → Leaves f s a (recordStepOf f s a .code) (recordStepOf f s a .answer)
-leaves f s a =
-    by-eqb {A = ℕ} (λ _. Leaves f s a (recordStepOf f s a .code) (recordStepOf f s a .answer)) (length a) (answerSize f) 0 0
-    (λ room. by-eqb {A = ℕ} (λ _. Leaves f s a (recordStepOf f s a .code) (recordStepOf f s a .answer)) (length s) (requestSize f) 0 0
-    (answered f s a room) (unread f s a room))
-    (untouched f s a)
+leaves f s a = whether (length a) (answerSize f) (λ room. whether (length s) (requestSize f) (answered f s a room) (unread f s a room)) (untouched f s a)
 
 -- ---- a refusal leaves nothing open: every byte is said
 
@@ -159,19 +155,14 @@ head-of l h =
     (drop-cons l 5 0 (omega arith) ∙ ap (λ (t : List ℕ). getD l 5 0 ∷ t)
     (drop-cons l 6 0 (omega arith) ∙ ap (λ (t : List ℕ). getD l 6 0 ∷ t) (drop-cons l 7 0 (omega arith))))
 
-more-than-head : (f : Format) → 8 ≤ answerLength f
-more-than-head f = rw (answer-length f) (omega arith)
-
 pub one-refusal : (f : Format) (s a : List ℕ) (c : ℕ) (l m : List ℕ) → Leaves f s a c l → Leaves f s a c m → (c ≡ 0 → ⊥) → l ≡ m
 one-refusal f s a c l m x y n =
-    by-eqb {A = ℕ} (λ _. l ≡ m) c 2 0 0 (λ e. x .untouched e ∙ sym (y .untouched e))
+    whether c 2 (λ e. x .untouched e ∙ sym (y .untouched e))
     (λ k.
-    let event : take 5 l ≡ take 5 m =
-    by-eqb {A = ℕ} (λ _. take 5 l ≡ take 5 m) c 1 0 0 (λ e. x .unread e ∙ sym (y .unread e)) (λ o. x .event k o ∙ sym (y .event k o)) in
-    let count : getD l 6 0 ≡ getD m 6 0 =
-    by-eqb {A = ℕ} (λ _. getD l 6 0 ≡ getD m 6 0) c 6 0 0 (λ e. x .pivot e ∙ sym (y .pivot e))
+    let event : take 5 l ≡ take 5 m = whether c 1 (λ e. x .unread e ∙ sym (y .unread e)) (λ o. x .event k o ∙ sym (y .event k o)) in
+    let count : getD l 6 0 ≡ getD m 6 0 = whether c 6 (λ e. x .pivot e ∙ sym (y .pivot e))
     (λ o. x .uncounted k o (λ q. n (q .0)) ∙ sym (y .uncounted k o (λ q. n (q .0)))) in
-    let enough = more-than-head f in
+    let enough : 8 ≤ answerLength f = rw (answer-length f) (omega arith) in
     head-of l (omega (arith, x .size k))
     ∙ (rw (event, x .coded k ∙ sym (y .coded k), count, x .unmarked k n ∙ sym (y .unmarked k n), x .clear k n ∙ sym (y .clear k n)))
     ∙ sym (head-of m (omega (arith, y .size k))))

@@ -3,7 +3,7 @@ use Rattle.float.proofs.Words.{_≡_, refl, sym, _∙_, Bool, true, false, true
 use Rattle.float.proofs.Words.{Format, le}
 use Rattle.float.specs.Constants.{zeroF}
 use Rattle.float.specs.Sign.{finite}
-use Rattle.float.proofs.Choice.{by-eqb, either}
+use Rattle.float.proofs.Choice.{not-below, whether}
 use Rattle.matrix.specs.Places.{at}
 use Rattle.matrix.specs.Rows.{Gives}
 use Rattle.matrix.proofs.Rows.{taken-row, passed-row, not-given}
@@ -13,7 +13,7 @@ use Rattle.promises.specs.Conditions.{Unused, usedIn, pivotsIn, madeIn, 
 -- ---- what is not refuted, of numbers and of tests
 
 same-number : (m n : ℕ) → ((m ≡ n → ⊥) → ⊥) → m ≡ n
-same-number m n h = by-eqb {A = ℕ} (λ _. m ≡ n) m n 0 0 (λ e. e) (λ k. absurd (h k))
+same-number m n h = whether m n (λ e. e) (λ k. absurd (h k))
 
 so : (t : Bool) → ((t ≡ true → ⊥) → ⊥) → t ≡ true
 so true h = refl
@@ -22,9 +22,6 @@ so false h = absurd (h false≢true)
 not-so : (t : Bool) → ((t ≡ false → ⊥) → ⊥) → t ≡ false
 not-so true h = absurd (h true≢false)
 not-so false h = refl
-
-le-unless : (m n : ℕ) → (n < m → ⊥) → m ≤ n
-le-unless m n h = either n m (λ l. absurd (h l)) (λ l. l)
 
 -- ---- a request and an answer slice, and the code that the rows give
 
@@ -100,4 +97,4 @@ module _ (f : Format) (s a : List ℕ) (c : ℕ) (g : Gives (rows f s a) c) wher
       )
     where
       kind : ((Listed → ⊥) → ⊥) → Listed
-      kind h = (le-unless 1 (kindIn s) (λ l. h (λ k. omega (arith, k .0))), le-unless (kindIn s) 8 (λ l. h (λ k. omega (arith, k .1))))
+      kind h = (not-below (kindIn s) 1 (λ l. h (λ k. omega (arith, k .0))), not-below 8 (kindIn s) (λ l. h (λ k. omega (arith, k .1))))

@@ -4,7 +4,7 @@ use mathlib.Core.List.{List, [], _∷_, _++_, map}
 use Prim.Native.Nat.{ℕ, _+_, _-_, _*_, _^_}
 use lib.ListN.{length, replicate}
 use lib.Ieee.{Float, binary64, ofBits, toBits}
-use Rattle.float.specs.Root.{rootOf}
+use Rattle.float.specs.Root.{rootBitsOf}
 use Rattle.cholesky.specs.Factor.{FactorAnswer, factor2Of, factor3Of}
 use Rattle.kinds.specs.Work.{workOf}
 use Rattle.kinds.specs.declared.work.Worked.{Worked}
@@ -40,6 +40,10 @@ floats = map (ofBits binary64)
 abbrev pub patterns : List Float → List ℕ
 patterns = map (toBits binary64)
 
+-- a single number
+abbrev pub number : ℕ → Shown
+number x = numbers 0 0 0 (x ∷ []) [] []
+
 abbrev pub ofKind : Worked → Shown
 ofKind w = numbers (w .code) (w .count) (w .settled) (patterns (w .values)) (patterns (w .left)) (patterns (w .right))
 
@@ -54,7 +58,7 @@ abbrev pub old : ℕ → List ℕ
 old n = replicate n 0x4008000000000000
 
 abbrev pub answerTo : Call → Shown
-answerTo (root x) = numbers 0 0 0 (patterns (map (rootOf binary64) (floats (x ∷ [])))) [] []
+answerTo (root x) = number (rootBitsOf binary64 x)
 answerTo (kind k nine three) = ofKind (workOf binary64 (record { kind = k; way = 0; nine = floats nine; three = floats three }))
 answerTo (factor2 a) = ofFactor (factor2Of binary64 (floats (old 3)) (floats a))
 answerTo (factor3 a) = ofFactor (factor3Of binary64 (floats (old 6)) (floats a))
@@ -76,10 +80,6 @@ bad code pivot = numbers code pivot 0 (filled 3 []) (filled 9 []) (filled 9 [])
 -- a factor that stopped, and what it wrote before the old numbers
 abbrev pub early : ℕ → List ℕ → Shown
 early pivot left = numbers 6 pivot 0 [] left []
-
--- a root
-abbrev pub number : ℕ → Shown
-number x = numbers 0 0 0 (x ∷ []) [] []
 
 -- ---- numbers
 

@@ -12,7 +12,7 @@ use Rattle.promises.specs.Conditions.{pivotsIn}
 abbrev pub Not : ℕ → ℕ → Type 0
 Not k code = code ≡ k → ⊥
 
--- the kinds of the 3x3 matrices that are turned
+-- the kinds whose 3x3 matrix is turned
 abbrev pub Turned : ℕ → Type 0
 Turned kind = (kind ≡ 2) ⊎ (kind ≡ 4)
 

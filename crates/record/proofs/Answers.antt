@@ -1,8 +1,8 @@
 -- Every answer: its size, its code in its byte, zeros from the mark on where the code is not 0, and 5 only by the record's own test.
-use Rattle.float.proofs.Words.{_≡_, refl, sym, ap, _∙_, true, List, _∷_, _++_, _⊎_, inl, inr, ⊎-elim, ℕ, zero, suc, _+_, _-_, _*_, _≤_, mul-zero, mul-suc}
-use Rattle.float.proofs.Words.{arith, eqb, length, getD, take, drop, replicate, length-append, length-take, length-drop, replicate-append-replicate}
-use Rattle.float.proofs.Words.{length-take-le, getD-append-add, drop-append-add, drop-drop, Format, eq-eqb, ne-eqb}
-use Rattle.float.proofs.Choice.{chosen, by-eqb}
+use Rattle.float.proofs.Words.{_≡_, refl, sym, ap, _∙_, true, List, _∷_, _++_, ℕ, zero, suc, _+_, _-_, _*_, _≤_, mul-zero, mul-suc, arith, eqb, length, getD}
+use Rattle.float.proofs.Words.{take, drop, replicate, length-append, length-take, length-drop, replicate-append-replicate, length-take-le, getD-append-add}
+use Rattle.float.proofs.Words.{drop-append-add, drop-drop, Format, eq-eqb, ne-eqb}
+use Rattle.float.proofs.Choice.{chosen, by-eqb, whether}
 use Rattle.kinds.specs.Work.{refusedKind, usedFinite, workOf}
 use Rattle.kinds.proofs.Works.{Sized, work-sized, Clear, work-clear, work-five}
 use Rattle.kinds.specs.declared.work.Worked.{Worked}
@@ -80,14 +80,9 @@ head-byte f event kind w i h = ap (λ (k : ℕ). getD (recordOf f event kind w) 
 pub code-in-place : (f : Format) (s a : List ℕ) → length a ≡ answerSize f → getD (recordStepOf f s a .answer) codeAt 0 ≡ recordStepOf f s a .code
 code-in-place f s a h = each-record (λ (t : Step). getD (t .answer) codeAt 0 ≡ t .code) f s a h (λ event kind w e _ _. head-byte f event kind w 1 e)
 
-same? : (m n : ℕ) → (m ≡ n) ⊎ (m ≡ n → ⊥)
-same? m n = by-eqb {A = ℕ} (λ _. (m ≡ n) ⊎ (m ≡ n → ⊥)) m n 0 0 inl inr
-
 pub code-unless-2 : (f : Format) (s a : List ℕ) → (recordStepOf f s a .code ≡ 2 → ⊥) → getD (recordStepOf f s a .answer) codeAt 0 ≡ recordStepOf f s a .code
 code-unless-2 f s a k =
-    ⊎-elim (λ (e : length a ≡ answerSize f). code-in-place f s a e)
-    (λ (n : length a ≡ answerSize f → ⊥). absurd (k (ap (λ (t : Step). t .code) (no-room f s a n))))
-    (same? (length a) (answerSize f))
+    whether (length a) (answerSize f) (code-in-place f s a) (λ n. absurd (k (ap (λ (t : Step). t .code) (no-room f s a n))))
 
 -- ---- with a code other than 0 the mark is zero, and every byte behind it
 
