@@ -1,10 +1,10 @@
 -- The codes of the Cholesky kernels by their rows: 5 before 6 before 7. The test of the pivots decides whether one is at most zero.
-use Rattle.float.proofs.Words.{take, _≡_, refl, sym, _∙_, Bool, true, false, _||_, true≢false, false≢true, List, [], _∷_, _++_, ℕ, zero, suc, _<_, arith}
+use Rattle.float.proofs.Words.{take, _≡_, refl, sym, _∙_, Bool, true, false, false≢true, List, [], _∷_, _++_, ℕ, zero, suc, _<_, arith}
 use Rattle.float.proofs.Words.{length, Float, Format, le}
 use Rattle.float.specs.Choice.{pick}
 use Rattle.float.specs.Constants.{zeroF}
 use Rattle.float.specs.Sign.{allFinite}
-use Rattle.float.proofs.Choice.{by-eqb}
+use Rattle.float.proofs.Choice.{neither, by-eqb}
 use Rattle.float.proofs.Judged.{by-call}
 use Rattle.matrix.specs.Places.{at, zeros}
 use Rattle.matrix.specs.Rows.{on, Gives, TooShort, NotFinite, AtMostZero, kernelRows, pivotRows}
@@ -21,10 +21,6 @@ each-above : (f : Format) (ps : List Float) → ((i : ℕ) → i < length ps →
 unfolding oneAtMostZero
 each-above f [] h = refl
 each-above f (p ∷ ps) h = rw (h 0 (omega arith), each-above f ps (λ i l. h (suc i) (omega arith)))
-
-neither : (a b : Bool) → a || b ≡ false → (a ≡ false) × (b ≡ false)
-neither true b e = absurd (true≢false e)
-neither false b e = (refl, e)
 
 all-above : (f : Format) (ps : List Float) → oneAtMostZero f ps ≡ false → (i : ℕ) → i < length ps → le (at ps i) (zeroF f) ≡ false
 unfolding oneAtMostZero

@@ -26,3 +26,6 @@ pub const ANSWER_NOT_FINITE: u8 = 7;
 
 // A row or a column not below the size.
 pub const OUTSIDE: u8 = 8;
+
+// A count passes 64 bits.
+pub const COUNT_TOO_LARGE: u8 = 14;

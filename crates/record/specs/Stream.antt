@@ -12,6 +12,10 @@ use Rattle.record.specs.Answer.{answeredOf}
 abbrev pub requestOf : Format → ℕ → List ℕ → List ℕ
 requestOf f i s = part (requestSize f * i) (requestSize f) s
 
+-- the answer with number i
+abbrev pub answerOf : Format → ℕ → List ℕ → List ℕ
+answerOf f i s = part (answerSize f * i) (answerSize f) s
+
 -- the answers to the first n requests
 unfoldable pub answersOf : Format → ℕ → List ℕ → List ℕ
 answersOf f zero s = []

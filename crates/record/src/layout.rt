@@ -3,7 +3,7 @@ use float::width::NUMBER_SIZE;
 
 pub(crate) const EVENT_SIZE: usize = 4;
 
-pub(crate) const KIND_AT: usize = EVENT_SIZE;
+pub const KIND_AT: usize = EVENT_SIZE;
 
 pub(crate) const NUMBERS_AT: usize = 8;
 
@@ -15,6 +15,12 @@ pub(crate) const THREE_AT: usize = NUMBERS_AT + 9 * NUMBER_SIZE;
 pub const REQUEST_SIZE: usize = THREE_AT + 3 * NUMBER_SIZE;
 
 // ---- an answer
+pub const CODE_AT: usize = 5;
+
+pub const COUNT_AT: usize = 6;
+
+pub const MARK_AT: usize = 7;
+
 pub(crate) const LEFT_AT: usize = NUMBERS_AT + 3 * NUMBER_SIZE;
 
 pub(crate) const RIGHT_AT: usize = LEFT_AT + 9 * NUMBER_SIZE;
