@@ -1,0 +1,15 @@
+pub mod Among
+pub mod Sums
+pub mod ByCell
+pub mod Listed
+pub mod Placed
+pub mod EachRow
+pub mod Steps
+pub mod Cut
+pub mod Files
+pub mod Fronts
+pub mod Ends
+pub mod Added
+pub mod Codes
+pub mod Unique
+pub mod AddedUp

@@ -1,0 +1,5 @@
+pub mod Known
+pub mod Cells
+pub mod Tally
+pub mod Adding
+pub mod Refused
