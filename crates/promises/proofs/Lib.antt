@@ -10,3 +10,4 @@ pub mod Wiring
 pub mod Vouched
 pub mod Pivots
 pub mod Leaves
+pub mod Counted

@@ -4,3 +4,4 @@ pub mod Conditions
 pub mod Wiring
 pub mod Vouched
 pub mod Leaves
+pub mod Counted
