@@ -1,0 +1,11 @@
+pub mod Decimals
+pub mod Stores
+pub mod Blocks
+pub mod Totals
+pub mod Pieces
+pub mod Lengths
+pub mod Written
+pub mod Codes
+pub mod Records
+pub mod Examples
+pub mod Unique
