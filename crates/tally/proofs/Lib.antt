@@ -1,0 +1,4 @@
+pub mod Rounds
+pub mod Shown
+pub mod Seen
+pub mod Told

@@ -1,0 +1,5 @@
+pub mod Buffers
+pub mod States
+pub mod Rounds
+pub mod Given
+pub mod Told
