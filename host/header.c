@@ -7,6 +7,7 @@
 #include <stdio.h>
 #include <string.h>
 
+#include "tried.h"
 #include "zanikory.h"
 
 uint8_t answer_record_from_cpp(const uint8_t *request, size_t request_length, uint8_t *answer,
@@ -51,25 +52,6 @@ static struct request good(const struct kind *kind)
     memcpy(r.bytes + ZANIKORY_REQUEST_NINE_AT, nine, kind->nine * sizeof nine[0]);
     memcpy(r.bytes + ZANIKORY_REQUEST_THREE_AT, three, kind->three * sizeof three[0]);
     return r;
-}
-
-/* ---- a kind of call */
-
-struct tried {
-    const char *what;
-    unsigned calls, wrong;
-};
-
-static struct tried begin(const char *what)
-{
-    struct tried tried = {what, 0, 0};
-    return tried;
-}
-
-static int end(const struct tried *tried)
-{
-    printf("%-58s  %u\n", tried->what, tried->calls);
-    return tried->wrong != 0;
 }
 
 /* ---- a call, and what it must leave */

@@ -21,7 +21,8 @@ extern "C" {
 /* ---- codes */
 
 /* What an entry answers. With more than one reason to refuse, the order is 2, 1, 3, 4, 5, 6, 7. The
-   worked matrix of a 3x3 call counts among the numbers of its answer, though no record has it. */
+   worked matrix of a 3x3 call counts among the numbers of its answer, though no record has it. 14 is of
+   tallies alone (zanikory_tally.h). */
 enum zanikory_code {
     ZANIKORY_CODE_DONE = 0,              /* none of the others */
     ZANIKORY_CODE_INPUT_LENGTH = 1,      /* an input has a wrong length */
@@ -30,7 +31,8 @@ enum zanikory_code {
     ZANIKORY_CODE_RESERVED = 4,          /* a reserved byte or an unused number is not all zero bits */
     ZANIKORY_CODE_INPUT_NOT_FINITE = 5,  /* a used input number is NaN or infinite */
     ZANIKORY_CODE_PIVOT = 6,             /* a pivot is at most zero */
-    ZANIKORY_CODE_ANSWER_NOT_FINITE = 7  /* a number of the answer is NaN or infinite */
+    ZANIKORY_CODE_ANSWER_NOT_FINITE = 7, /* a number of the answer is NaN or infinite */
+    ZANIKORY_CODE_COUNT_TOO_LARGE = 14   /* a count would pass 64 bits */
 };
 
 /* ---- records

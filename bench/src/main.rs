@@ -21,6 +21,8 @@ mod records;
 mod roots;
 #[cfg(clarabel)]
 mod straight;
+#[cfg(clarabel)]
+mod tallies;
 
 use race::Race;
 use std::process::ExitCode;
@@ -54,6 +56,7 @@ fn measured(words: &[&str], machine: &str) -> Result<(), String> {
     kernels::all(&mut tell)?;
     records::codec(&mut tell)?;
     records::all(&mut tell)?;
+    tallies::all(&mut tell)?;
     let files = programs::all(program, &mut |line| println!("{line}, {machine}"))?;
     if write {
         document::write(&races, &files, machine)?;

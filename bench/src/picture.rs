@@ -24,11 +24,12 @@ const OURS: &str = "#b5541c";
 const THEIRS: &str = "#2f6f9f";
 
 /// What ours is held beside, the colour of its bars, and what it is.
-const BESIDES: [(&str, &str, &str); 4] = [
+const BESIDES: [(&str, &str, &str); 5] = [
     ("hardware", "#7a7a7a", "the processor's root"),
     ("crate", "#b5541c", "the crate's kernel"),
-    ("oracle", "#2f6f9f", "the oracle's answer to a record"),
-    ("straight", "#5f9f6f", "a codec written straight in Rust"),
+    ("oracle", "#2f6f9f", "the oracle"),
+    ("straight", "#5f9f6f", "written straight in Rust"),
+    ("reading", "#8f6fa0", "reading the file"),
 ];
 
 pub fn write(races: &[Race], files: &Files, machine: &str) -> Result<(), String> {
@@ -103,7 +104,7 @@ fn scale(bottom: f64) -> String {
 fn legend() -> String {
     let mut drawn = String::new();
     for (i, (_, colour, what)) in BESIDES.iter().enumerate() {
-        let x = 20.0 + 225.0 * i as f64;
+        let x = 20.0 + 178.0 * i as f64;
         drawn +=
             &format!("<rect x=\"{x}\" y=\"46\" width=\"12\" height=\"12\" fill=\"{colour}\"/>\n");
         drawn += &text(x + 18.0, 57.0, "start", 12, what);

@@ -1,11 +1,12 @@
-//! The record step once more, written straight in Rust for nothing but speed: the codec of whoever needs
-//! no proof. The kernels are the reference's.
+//! The record step and the tally once more, written straight in Rust for nothing but speed: those of whoever
+//! needs no proof. The kernels are the reference's.
 
-use reference::codes::{INPUT_NOT_FINITE, KIND, NOT_ZERO};
-use reference::kinds::{refused, Answer, Kind, Worked};
+use reference::codes::{COUNT_TOO_LARGE, INPUT_NOT_FINITE, KIND, NOT_ZERO};
+use reference::kinds::{refused, row_of, Answer, Kind, Worked, ROWS};
 use reference::record::{
     ANSWER_BYTES, CODE_AT, COUNT_AT, KIND_AT, NUMBERS_AT, REQUEST_BYTES, SETTLED_AT,
 };
+use reference::rotations::MOST;
 use std::array::from_fn;
 
 /// A number is finite where these are not all set.
@@ -53,4 +54,50 @@ fn put(worked: &Worked, out: &mut [u8; ANSWER_BYTES]) {
     for (place, x) in places.zip(numbers) {
         place.copy_from_slice(&x.to_bits().to_le_bytes());
     }
+}
+
+/// The counts of a tally: nine of each row, then two for each number of rotations, the foreign records and
+/// the bytes left over.
+pub const COUNTS: usize = LEFT_AT + 1;
+const TURNS_AT: usize = 9 * ROWS;
+const FOREIGN_AT: usize = TURNS_AT + 2 * (MOST as usize + 1);
+const LEFT_AT: usize = FOREIGN_AT + 1;
+
+/// Answers more in a tally, and its code.
+pub fn tally(counts: &mut [u64; COUNTS], answers: &[u8]) -> u8 {
+    let mut records = answers.chunks_exact(ANSWER_BYTES);
+    let left = records.remainder().len() as u64;
+    if records.all(|answer| count(counts, answer)) && add(&mut counts[LEFT_AT], left) {
+        return 0;
+    }
+    counts.fill(0);
+    COUNT_TOO_LARGE as u8
+}
+
+fn add(count: &mut u64, more: u64) -> bool {
+    let (sum, passes) = count.overflowing_add(more);
+    *count = sum;
+    !passes
+}
+
+/// Says whether all fits.
+fn count(counts: &mut [u64; COUNTS], answer: &[u8]) -> bool {
+    let [kind, code, turns, mark] = from_fn(|i| answer[KIND_AT + i]);
+    let row = row_of(kind);
+    let place = match code {
+        0 | 1 => code,
+        3..=7 => code - 1,
+        _ => return add(&mut counts[FOREIGN_AT], 1),
+    };
+    if code > 0 {
+        return add(&mut counts[9 * row + usize::from(place)], 1);
+    }
+    let turning = matches!(row, 2 | 4);
+    if row == 0 || mark > 1 || turns > if turning { MOST as u8 } else { 0 } {
+        return add(&mut counts[FOREIGN_AT], 1);
+    }
+    let turned = TURNS_AT + 2 * usize::from(turns) + usize::from(row == 4);
+    add(&mut counts[9 * row], 1)
+        && add(&mut counts[9 * row + 8 - usize::from(mark)], 1)
+        && (!turning || add(&mut counts[turned], 1))
 }

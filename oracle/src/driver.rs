@@ -47,9 +47,10 @@ pub fn survey(subject: &Subject, count: u64, seed: u64) -> bool {
     show(subject, &hits) == 0 && count > 0
 }
 
-fn start(probe: &[&str]) -> io::Result<Child> {
-    Command::new(probe[0])
-        .args(&probe[1..])
+/// Starts a program with pipes for what it reads and writes.
+pub fn start(words: &[&str]) -> io::Result<Child> {
+    Command::new(words[0])
+        .args(&words[1..])
         .stdin(Stdio::piped())
         .stdout(Stdio::piped())
         .spawn()

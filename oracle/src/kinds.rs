@@ -32,6 +32,14 @@ pub const KINDS: [Kind; 8] = [
     kind("solve 3x3", 6, 3, false, "factor_and_solve3", solve::<6, 3>),
 ];
 
+/// A table of records has a row for each kind, behind one for all numbers that are none.
+pub const ROWS: usize = KINDS.len() + 1;
+pub const OTHER: usize = 0;
+
+pub fn row_of(kind: u8) -> usize {
+    Kind::of(kind).map_or(OTHER, |_| usize::from(kind))
+}
+
 const fn kind(
     name: &'static str,
     nine: usize,

@@ -7,11 +7,13 @@ mod driver;
 mod eigen;
 mod float;
 mod golden;
+mod heads;
 mod in_place;
 mod kinds;
 mod lent;
 mod listed;
 mod matrix;
+mod met;
 mod modules;
 mod nights;
 mod numbers;
@@ -29,9 +31,12 @@ mod subject;
 mod subjects;
 mod svd;
 mod table;
+mod tallies;
+mod tally;
 
-use std::io::{self, BufWriter};
+use std::io::{self, BufReader, BufWriter, Read, Write};
 use std::process::ExitCode;
+use tally::{Tally, TooLarge};
 
 fn main() -> ExitCode {
     let words: Vec<String> = std::env::args().skip(1).collect();
@@ -39,7 +44,9 @@ fn main() -> ExitCode {
     let done = match &words[..] {
         ["subjects"] => Some(Ok(list_subjects())),
         ["operations", input, output] => Some(golden::write(input, output)),
-        _ => with_records(&words).or_else(|| with_subject(&words)),
+        _ => with_records(&words)
+            .or_else(|| with_tallies(&words))
+            .or_else(|| with_subject(&words)),
     };
     match done {
         Some(Ok(true)) => ExitCode::SUCCESS,
@@ -65,6 +72,10 @@ fn usage() {
     eprintln!("       oracle answers < REQUESTS > ANSWERS");
     eprintln!("       oracle branches < REQUESTS");
     eprintln!("       oracle table REQUESTS ANSWERS");
+    eprintln!("       oracle tally < ANSWERS > LISTING");
+    eprintln!("       oracle tallies COUNT SEED PROGRAM-COMMAND...");
+    eprintln!("       oracle golden-answers > ANSWERS");
+    eprintln!("       oracle heads < ANSWERS");
 }
 
 /// Prints the name of each subject, and says whether there are any.
@@ -87,6 +98,29 @@ fn with_records(words: &[&str]) -> Option<io::Result<bool>> {
         ["table", requests, answers] => table::show(requests, answers),
         _ => return None,
     })
+}
+
+/// The same of tallies.
+fn with_tallies(words: &[&str]) -> Option<io::Result<bool>> {
+    let mut input = BufReader::with_capacity(1 << 16, io::stdin());
+    Some(match words {
+        ["tally"] => tally(&mut input).map(|()| true),
+        ["golden-answers"] => golden_answers().map(|()| true),
+        ["heads"] => met::show(&mut input),
+        ["tallies", count, seed, program @ ..] if !program.is_empty() => {
+            tallies::run(count.parse().ok()?, seed.parse().ok()?, program)
+        }
+        _ => return None,
+    })
+}
+
+fn tally(input: &mut impl Read) -> io::Result<()> {
+    let listing = Tally::read(input)?.listing().map_err(TooLarge::error)?;
+    stream::standard_output()?.write_all(listing.as_bytes())
+}
+
+fn golden_answers() -> io::Result<()> {
+    heads::write_golden(&mut BufWriter::new(stream::standard_output()?))
 }
 
 fn answers() -> io::Result<()> {

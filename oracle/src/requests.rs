@@ -30,7 +30,7 @@ pub fn write(count: u64, seed: u64, output: &mut impl Write) -> io::Result<()> {
 }
 
 /// A request of any kind: of a night, of the kind's own difficult inputs, or one that is refused for its form.
-fn any(random: &mut Random) -> Request {
+pub fn any(random: &mut Random) -> Request {
     let kind = 1 + random.below(8) as u8;
     let mut request = match random.below(3) {
         0 => of_a_night(random, kind),

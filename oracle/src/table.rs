@@ -1,37 +1,19 @@
 //! How often each kind was answered with each code, from a file of requests and one with their answers.
 
-use crate::codes::{
-    ANSWER_NOT_FINITE, DONE, INPUT_LENGTH, INPUT_NOT_FINITE, KIND, NOT_ZERO, PIVOT,
-};
-use crate::kinds::KINDS;
-use crate::record::{ANSWER_BYTES, CODE_AT, COUNT_AT, KIND_AT, REQUEST_BYTES, SETTLED_AT};
-use crate::rotations::MOST;
+use crate::codes::{ANSWER_NOT_FINITE, DONE, INPUT_LENGTH, KIND, OF_RECORDS, PIVOT};
+use crate::kinds::{row_of, KINDS, OTHER, ROWS};
+use crate::record::{ANSWER_BYTES, CODE_AT, COUNT_AT, KIND_AT, REQUEST_BYTES};
 use crate::stream::read_record;
+use crate::tally::{Answer, Tally};
 use std::fs::File;
 use std::io::{self, BufReader};
-
-/// The codes that a record can have. 2 and 8 are of calls alone: a program's answer has room, and no kind names a row.
-const CODES: [u64; 7] = [
-    DONE,
-    INPUT_LENGTH,
-    KIND,
-    NOT_ZERO,
-    INPUT_NOT_FINITE,
-    PIVOT,
-    ANSWER_NOT_FINITE,
-];
-
-/// The row of all that is none of the eight kinds, with the part of a request at the end, whose answer has a 0 there.
-const OTHER: usize = 0;
-
-const ROWS: usize = 9;
 
 /// Whether a kind can be answered with a code.
 fn possible(row: usize, code: u64) -> bool {
     match code {
         // 3 comes before every code but 1, and has all other kinds
         KIND => row == OTHER,
-        // the end of the input is not looked at for its kind
+        // the end of the input is not looked at for its kind, and its answer has a 0 there
         INPUT_LENGTH => row == OTHER,
         // no kernel but the factors has pivots
         PIVOT => row >= 5,
@@ -55,18 +37,10 @@ fn pivots(row: usize) -> usize {
 /// So many faults are shown.
 const SHOWN: usize = 40;
 
-/// Whether the kind of a row counts rotations. The row of 0 is that of unknown kinds.
-fn counts_rotations(row: usize) -> bool {
-    row.checked_sub(1).is_some_and(|k| KINDS[k].counts)
-}
-
 /// Counts of answers.
 struct Table {
-    cells: [[u64; CODES.len()]; ROWS],
+    tally: Tally,
     pivots: [[u64; 4]; ROWS],
-    rotations: [[u64; MOST as usize + 1]; ROWS],
-    /// Not settled, and settled.
-    settled: [[u64; 2]; ROWS],
     /// What is not right, or was never met.
     faults: Vec<String>,
 }
@@ -75,10 +49,8 @@ struct Table {
 /// cell that can be met is.
 pub fn show(requests: &str, answers: &str) -> io::Result<bool> {
     let mut table = Table {
-        cells: [[0; CODES.len()]; ROWS],
+        tally: Tally::default(),
         pivots: [[0; 4]; ROWS],
-        rotations: [[0; MOST as usize + 1]; ROWS],
-        settled: [[0; 2]; ROWS],
         faults: Vec::new(),
     };
     table.read(requests, answers)?;
@@ -124,29 +96,20 @@ impl Table {
         Ok(())
     }
 
-    fn count(&mut self, answer: &[u8; ANSWER_BYTES]) {
-        let row = match answer[KIND_AT] {
-            kind @ 1..=8 => usize::from(kind),
-            _ => OTHER,
-        };
-        let (code, count) = (u64::from(answer[CODE_AT]), usize::from(answer[COUNT_AT]));
-        let Some(column) = CODES.iter().position(|c| *c == code) else {
-            return self.faults.push(format!("an answer with code {code}"));
-        };
-        self.cells[row][column] += 1;
+    fn count(&mut self, answer: &Answer) {
+        let (row, code) = (row_of(answer[KIND_AT]), u64::from(answer[CODE_AT]));
+        let (count, foreign) = (answer[COUNT_AT], self.tally.foreign);
+        self.tally.count(answer).expect("a count of 64 bits");
         let counts: &mut [u64] = match code {
+            DONE => &mut [0; 256],
             PIVOT => &mut self.pivots[row],
-            DONE if counts_rotations(row) => &mut self.rotations[row],
             _ => &mut [0],
         };
-        match counts.get_mut(count) {
-            Some(counted) => *counted += 1,
-            None => self
+        match counts.get_mut(usize::from(count)) {
+            Some(counted) if self.tally.foreign == foreign => *counted += 1,
+            _ => self
                 .faults
                 .push(format!("kind {row}, code {code} with {count} in byte 6")),
-        }
-        if code == DONE {
-            self.settled[row][usize::from(answer[SETTLED_AT] == 1)] += 1;
         }
     }
 
@@ -162,13 +125,13 @@ impl Table {
     }
 
     fn print_cells(&mut self) {
-        let heads = CODES.map(|code| format!("{code:>8}"));
+        let heads = OF_RECORDS.map(|code| format!("{code:>8}"));
         println!("{:<16}{}", "kind", heads.concat());
         for row in (1..ROWS).chain([OTHER]) {
             let name = name(row);
             let mut line = format!("{name:<16}");
-            for (column, code) in CODES.into_iter().enumerate() {
-                let count = self.cells[row][column];
+            for (column, code) in OF_RECORDS.into_iter().enumerate() {
+                let count = self.tally.rows[row].codes[column];
                 let cell = self.cell(format!("{name}, code {code}"), count, possible(row, code));
                 line += &format!("{cell:>8}");
             }
@@ -194,16 +157,15 @@ impl Table {
     fn print_rotations(&mut self) {
         for row in 1..ROWS {
             // less than the most are made only where the end is settled, and the other kinds always are
-            let counted = counts_rotations(row);
-            let name = name(row);
-            let [not, settled] = self.settled[row];
-            let not = self.cell(format!("{name}, not settled"), not, counted);
+            let counted = KINDS[row - 1].counts;
+            let (name, of) = (name(row), self.tally.rows[row]);
+            let not = self.cell(format!("{name}, not settled"), of.unsettled, counted);
             if !counted {
                 continue;
             }
-            println!("{name:<16}settled  {settled}  not settled  {not}");
+            println!("{name:<16}settled  {}  not settled  {not}", of.settled);
             let mut line = format!("{name:<16}rotations");
-            for (rotations, count) in self.rotations[row].into_iter().enumerate() {
+            for (rotations, count) in of.turns.into_iter().enumerate() {
                 let cell = self.cell(format!("{name}, {rotations} rotations"), count, true);
                 line += &format!("  {rotations}: {cell}");
             }

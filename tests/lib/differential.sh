@@ -1,4 +1,4 @@
-# Sourced by the differential tests in the repository's root. Builds the oracle and a proved program: the one that the variable
+# Sourced by the differential tests in the repository's root. Builds the oracle and proved programs: those that the variable
 # proved names, or else the probe. Gives the functions compare, for which the variable seed is set, and finish. Exit status 77:
 # there is nothing to compare with (oracle/build says what).
 
@@ -6,7 +6,8 @@ test=$(basename "$0")
 oracle=$(oracle/build) || exit $?
 # no proof is done again where nothing changed
 mkdir -p target
-if ! rt check "${proved:-probe}" >"target/$test.log" 2>&1; then
+# shellcheck disable=SC2086
+if ! rt check ${proved:-probe} >"target/$test.log" 2>&1; then
     cat "target/$test.log"
     exit 1
 fi

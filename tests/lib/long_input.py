@@ -1,7 +1,8 @@
-"""long_input.py BYTES COMMAND..: so many bytes, of zeros and then of random ones, through a program that answers requests.
+"""long_input.py BYTES NAME COMMAND..: so many bytes, of zeros and then of random ones, through a program.
 
-Counts the answers and their codes, and measures the peak of the program's memory, which must not be larger than after ten
-million bytes but for a margin. Where the program runs under an emulator, the memory is that of both.
+Counts the answers of one that answers requests, and their codes; looks at the listing of the one that is named `tally`. Measures
+the peak of the program's memory, which must not be larger than after ten million bytes but for a margin. Where the program runs
+under an emulator, the memory is that of both.
 """
 import collections
 import os
@@ -19,7 +20,7 @@ SHORT = 10_000_000
 MARGIN = 4096  # kB: an emulator goes on translating code that it meets late
 PIPE = 1 << 16
 
-COMMAND = sys.argv[2:]
+NAME, COMMAND = sys.argv[2], sys.argv[3:]
 
 
 def zeros():
@@ -66,27 +67,43 @@ def peak_memory(process):
     return 0
 
 
+def answered(process, feeder, count):
+    """Whether the answers are right in number, what there is to say of them, and the peak of memory when all that is due has come,
+    and the program waits for more."""
+    codes = collections.Counter()
+    taken = take(process.stdout.fileno(), count // REQUEST * ANSWER, codes, 0)
+    memory = peak_memory(process)
+    feeder.join(timeout=60)
+    process.stdin.close()
+    taken += take(process.stdout.fileno(), 1 << 62, codes, taken)
+    due = -(-count // REQUEST)
+    right = taken == due * ANSWER and codes[1] == (1 if count % REQUEST else 0)
+    said = ', '.join(f'{code}: {codes[code]}' for code in sorted(codes))
+    return right, f'{taken / ANSWER:.10g} answers, {due} due; codes {said}', memory
+
+
+def tallied(process, feeder, count):
+    """The same of a listing, which comes at the end: the memory is looked at when all but what a pipe holds is read."""
+    feeder.join()
+    memory = peak_memory(process)
+    process.stdin.close()
+    listing = process.stdout.read().decode().splitlines()
+    due = [f'records\t{count // ANSWER}', f'left over\t{count % ANSWER}']
+    return all(line in listing for line in due), f'{len(listing)} lines, and due are {due}', memory
+
+
 def through(name, pieces, count):
-    """Gives whether the answers are right in number, and the peak of memory in kB."""
+    """Gives whether what is written is right, and the peak of memory in kB."""
     began = time.monotonic()
     errors = tempfile.TemporaryFile()
     process = subprocess.Popen(COMMAND, stdin=subprocess.PIPE, stdout=subprocess.PIPE, stderr=errors, bufsize=0)
     feeder = threading.Thread(target=feed, args=(pieces, count, process.stdin.fileno()), daemon=True)
     feeder.start()
-    codes = collections.Counter()
-    whole = count // REQUEST * ANSWER
-    taken = take(process.stdout.fileno(), whole, codes, 0)
-    # all that is due has come, and the program waits for more
-    memory = peak_memory(process)
-    feeder.join(timeout=60)
-    process.stdin.close()
-    taken += take(process.stdout.fileno(), 1 << 62, codes, taken)
+    right, said, memory = (tallied if NAME == 'tally' else answered)(process, feeder, count)
     status = process.wait()
-    due = -(-count // REQUEST)
-    right = taken == due * ANSWER and status == 0 and codes[1] == (1 if count % REQUEST else 0)
-    print(f'{count} bytes, {name}: {taken / ANSWER:.10g} answers, {due} due; status {status}; codes '
-          + ', '.join(f'{code}: {codes[code]}' for code in sorted(codes))
-          + f'; peak memory {memory} kB; {time.monotonic() - began:.0f} s; {"ok" if right else "WRONG"}', flush=True)
+    right = right and status == 0
+    print(f'{count} bytes, {name}: {said}; status {status}; peak memory {memory} kB; {time.monotonic() - began:.0f} s; '
+          f'{"ok" if right else "WRONG"}', flush=True)
     if not right:
         errors.seek(0)
         print(errors.read().decode(), end='')

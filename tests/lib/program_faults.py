@@ -1,9 +1,10 @@
-"""program_faults.py KIND NAME PRELOAD COMMAND..: faults of files and pipes, for a program that answers requests.
+"""program_faults.py KIND NAME PRELOAD COMMAND..: faults of files and pipes, for a program that answers requests or tallies answers.
 
 KIND is `proved` or `host`: a proved program has no status and says nothing when all went well; the C program ends with 1 when
-a read or a write failed, and prints its tally when none did. NAME is what it calls itself. PRELOAD is VARIABLE=LIBRARY, which
-makes it run with the library of tests/lib/interrupted.c, which has variables of its own. The variable CLOSED_PIPE has the words
-that start the program of tests/lib/closed_pipe.c in the same way. Prints a line for each case, and ends with 1 if any is wrong.
+a read or a write failed, and prints its tally when none did. NAME is what it calls itself, and `tally` is the one that tallies.
+PRELOAD is VARIABLE=LIBRARY, which makes it run with the library of tests/lib/interrupted.c, which has variables of its own. The
+variable CLOSED_PIPE has the words that start the program of tests/lib/closed_pipe.c in the same way. Prints a line for each case,
+and ends with 1 if any is wrong.
 """
 import fcntl
 import os
@@ -37,25 +38,6 @@ class Wrong(Exception):
 def expect(condition, message):
     if not condition:
         raise Wrong(message)
-
-
-# ---- requests
-
-def request(rng, event):
-    """One of any kind with numbers that may be answered, and of every eighth one byte changed to any other."""
-    kind = rng.randint(1, 8)
-    nine, three = ([rng.uniform(-2, 2) for _ in range(used.get(kind, 0))] for used in (NINE_USED, THREE_USED))
-    nine, three = nine + [0.0] * (9 - len(nine)), three + [0.0] * (3 - len(three))
-    r = bytearray(struct.pack('<IB3x9d3d', event, kind, *nine, *three))
-    if event % 8 == 0:
-        r[rng.randrange(REQUEST)] = rng.randrange(256)
-    return bytes(r)
-
-
-def requests(count, rest=0):
-    rng = random.Random(SEED)
-    whole = b''.join(request(rng, event) for event in range(count + 1))
-    return whole[:count * REQUEST + rest]
 
 
 # ---- a run of the program
@@ -129,13 +111,16 @@ class Run:
         expect(status == 0, f'status {status}, and said {self.said!r}')
         expect(TALLY.fullmatch(self.said) if KIND == 'host' else self.said == '', f'said {self.said!r}')
 
-    def end_failed(self, what, written=None):
-        """It said in one line that it could not read or write, and how many answers it had written, which is given."""
+    def end_failed(self, what, gone=None):
+        """It said in one line that it could not read or write, and, if it is one that says so, how many answers are among the so
+        many bytes that it wrote. Gives that number."""
         status = self.end()
-        line = re.fullmatch(rf'{NAME}: cannot {what}: (\d+) answers written\n', self.said)
+        line = re.fullmatch(rf'{NAME}: cannot {what}{WORK.told}\n', self.said)
         expect(line, f'said {self.said!r} where it could not {what}')
-        expect(written in (None, int(line[1])), f'said {self.said!r} where {written} answers were written')
         expect(status == (1 if KIND == 'host' else 0), f'status {status}')
+        if not line.groups():
+            return 0
+        expect(gone is None or gone // ANSWER == int(line[1]), f'said {self.said!r} where {gone} bytes were written')
         return int(line[1])
 
 
@@ -144,8 +129,8 @@ def write_all(file, piece):
         piece = piece[os.write(file, piece):]
 
 
-def same(answers, expected):
-    expect(answers == expected, f'{len(answers)} bytes of answers that differ from the {len(expected)} of the whole file')
+def same(got, expected):
+    expect(got == expected, f'{len(got)} bytes that differ from the {len(expected)} that are due')
 
 
 def file_with(content):
@@ -155,34 +140,135 @@ def file_with(content):
     return file
 
 
-def answers_of(content, **settings):
+def written_for(content, **settings):
+    """What the program writes where a file has this content."""
     with file_with(content) as file:
         run = Run(stdin=file, **settings)
-        answers = run.take()
+        written = run.take()
         run.end_well()
-    return answers
+    return written
+
+
+# ---- the two sorts of program
+
+RECORDS, REST = 300, 50
+
+
+class Answering:
+    """Answers requests, each as soon as it is there, and tells how many answers went out when something fails."""
+
+    size = REQUEST
+    told = r': (\d+) answers written'
+
+    def __init__(self):
+        rng = random.Random(SEED)
+        whole = b''.join(self.request(rng, event) for event in range(RECORDS + 1))
+        self.data = whole[:RECORDS * REQUEST + REST]
+        self.answers = b''
+
+    @staticmethod
+    def request(rng, event):
+        """One of any kind with numbers that may be answered, and of every eighth one byte changed to any other."""
+        kind = rng.randint(1, 8)
+        nine, three = ([rng.uniform(-2, 2) for _ in range(used.get(kind, 0))] for used in (NINE_USED, THREE_USED))
+        nine, three = nine + [0.0] * (9 - len(nine)), three + [0.0] * (3 - len(three))
+        r = bytearray(struct.pack('<IB3x9d3d', event, kind, *nine, *three))
+        if event % 8 == 0:
+            r[rng.randrange(REQUEST)] = rng.randrange(256)
+        return bytes(r)
+
+    def look_at_whole(self):
+        """What the other cases are held against."""
+        answers = written_for(self.data)
+        expect(len(answers) == (RECORDS + 1) * ANSWER, f'{len(answers)} bytes of answers to {RECORDS} requests and a part')
+        for i in range(RECORDS):
+            head = answers[ANSWER * i:ANSWER * i + 5]
+            expect(head == self.data[REQUEST * i:REQUEST * i + 5], f'answer {i} has another number or kind')
+        expect(answers[-ANSWER:] == bytes([0, 0, 0, 0, 0, 1]) + bytes(ANSWER - 6), 'the part has not the answer of code 1')
+        self.answers = answers
+
+    def due(self, length):
+        """What is written in all where the input is the first so many bytes of the data."""
+        return self.answers[:-(-length // REQUEST) * ANSWER]
+
+    def due_before_the_end(self, records):
+        """What of it is written once so many records are there."""
+        return self.answers[:records * ANSWER]
+
+    def due_of_whole(self, times):
+        """The same for the whole records of the data, so many times."""
+        return times * self.answers[:RECORDS * ANSWER]
+
+    def sizes(self):
+        """Sizes of a file that end within an answer, or behind whole ones. The answers to whole requests are one write, and that
+        to a last part is another."""
+        for whole in (10, RECORDS - 1):
+            yield from (whole * ANSWER, whole * ANSWER + REST, whole * ANSWER + ANSWER - 1)
+
+
+class Tallying:
+    """Lists what a file of answers has, once it is read to its end."""
+
+    size = ANSWER
+    told = ''
+
+    def __init__(self):
+        rng = random.Random(SEED)
+        self.data = b''.join(self.answer(rng, event) for event in range(RECORDS)) + bytes(REST)
+
+    @staticmethod
+    def answer(rng, event):
+        """One of any kind and code with a mark and some rotations, and of every eighth one byte of these changed to any other."""
+        kind, code = rng.randint(0, 9), rng.choice([0, 0, 0, 1, 3, 4, 5, 6, 7])
+        a = bytearray(struct.pack('<IBBBB', event, kind, code, rng.randint(0, 25), rng.randint(0, 1)))
+        if event % 8 == 0:
+            a[rng.randrange(4, 8)] = rng.randrange(256)
+        return bytes(a) + rng.randbytes(ANSWER - len(a))
+
+    @staticmethod
+    def named(listing):
+        """The numbers of each line of the first part, by its name."""
+        lines = [line.split('\t') for line in listing.decode().splitlines()]
+        return {name: [int(field) for field in fields] for name, *fields in lines[1:lines.index(['turns', 'kind 2', 'kind 4'])]}
+
+    def look_at_whole(self):
+        numbers = self.named(written_for(self.data))
+        [records], [foreign], codes = numbers['records'], numbers['foreign'], numbers['total'][:7]
+        expect(records == RECORDS == foreign + sum(codes), f'{records} records, {foreign} foreign, codes {codes}')
+        expect(numbers['left over'] == [REST], f'{numbers["left over"]} bytes left over')
+
+    def due(self, length):
+        return written_for(self.data[:length])
+
+    def due_before_the_end(self, records):
+        return b''
+
+    def due_of_whole(self, times):
+        return written_for(times * self.data[:RECORDS * ANSWER])
+
+    def sizes(self):
+        """Standard error is a file here too, and has room for a line."""
+        whole = len(self.due(len(self.data)))
+        return (REST, whole // 2, whole - 1)
+
+
+WORK = Tallying() if NAME == 'tally' else Answering()
+DATA, SIZE = WORK.data, WORK.size
 
 
 # ---- cases: input in pieces
 
-DATA = requests(300, rest=50)
-EXPECTED = b''
-
-
 def whole_file():
-    """What the other cases are held against."""
-    global EXPECTED
-    answers = answers_of(DATA)
-    expect(len(answers) == 301 * ANSWER, f'{len(answers)} bytes of answers to 300 requests and a part')
-    for i in range(300):
-        head = answers[ANSWER * i:ANSWER * i + 5]
-        expect(head == DATA[REQUEST * i:REQUEST * i + 5], f'answer {i} has another number or kind')
-    expect(answers[-ANSWER:] == bytes([0, 0, 0, 0, 0, 1]) + bytes(ANSWER - 6), 'the part has not the answer of code 1')
-    EXPECTED = answers
+    WORK.look_at_whole()
 
 
 def empty():
-    same(answers_of(b''), b'')
+    same(written_for(b''), b'')
+
+
+def empty_listing():
+    numbers = WORK.named(written_for(b''))
+    expect(not any(map(any, numbers.values())), f'counted in an empty file: {numbers}')
 
 
 def chunked(data, sizes):
@@ -196,17 +282,17 @@ def short_reads():
     rng = random.Random(SEED)
     run = Run()
     run.feed(chunked(DATA, lambda: rng.randint(1, 300)), pause=lambda: rng.choice([0, 0, 0.001]))
-    answers = run.take()
+    written = run.take()
     run.end_well()
-    same(answers, EXPECTED)
+    same(written, WORK.due(len(DATA)))
 
 
 def single_bytes():
     run = Run()
-    run.feed(chunked(DATA[:3 * REQUEST], lambda: 1), pause=lambda: 0.001)
-    answers = run.take()
+    run.feed(chunked(DATA[:3 * SIZE], lambda: 1), pause=lambda: 0.001)
+    written = run.take()
     run.end_well()
-    same(answers, EXPECTED[:3 * ANSWER])
+    same(written, WORK.due(3 * SIZE))
 
 
 def preloaded(**variables):
@@ -217,14 +303,14 @@ def preloaded(**variables):
 
 def one_byte_reads():
     """More than 30,000 reads: a program that counts its rounds, and gives up after some thousands, shows it."""
-    same(answers_of(DATA, environment=preloaded(READ_AT_MOST='1')), EXPECTED)
+    same(written_for(DATA, environment=preloaded(READ_AT_MOST='1')), WORK.due(len(DATA)))
 
 
-def million():
+def million_requests():
     """The same requests over and over, most of no kind, so that they take little time: a program that counts its answers, and
     gives up after a million, shows it."""
     few = b''.join(struct.pack('<I100x', event) for event in range(1000)) + DATA[:20 * REQUEST]
-    due = 2 * answers_of(few)
+    due = 2 * written_for(few)
     times = 1_100_000 * REQUEST // len(few)
     run = Run()
     run.feed([few] * times)
@@ -237,20 +323,39 @@ def million():
     expect(taken == times * len(due) // 2, f'{taken} bytes of answers, and {times * len(due) // 2} are due')
 
 
+def million_answers():
+    """The same answers over and over: a program that gives up after a million shows it."""
+    few = DATA[:RECORDS * SIZE]
+    times = 1_100_000 // RECORDS
+    run = Run()
+    run.feed([few] * times)
+    numbers = WORK.named(run.take())
+    run.end_well()
+    for name, counts in WORK.named(written_for(few)).items():
+        due = [times * n for n in counts]
+        expect(numbers[name] == due, f'{name}: {numbers[name]}, and {due} are due')
+
+
 def served():
     """Each answer comes before the next request is given; then the same with half of the next one there already."""
     run = Run()
     given = 0
-    for ahead in (0, REQUEST // 2):
+    for ahead in (0, SIZE // 2):
         for i in range(10):
-            upto = REQUEST * (i + 1) + (ahead if i < 9 else 0)
+            upto = SIZE * (i + 1) + (ahead if i < 9 else 0)
             write_all(run.process.stdin.fileno(), DATA[given:upto])
-            same(run.take(ANSWER), EXPECTED[ANSWER * i:ANSWER * (i + 1)])
+            take_due(run, i, i + 1)
             given = upto
         given = 0
     run.feed([])
     same(run.take(), b'')
     run.end_well()
+
+
+def take_due(run, records, more):
+    """Takes what is due when more records are there than were."""
+    before, after = (WORK.due_before_the_end(n) for n in (records, more))
+    same(run.take(len(after) - len(before)), after[len(before):])
 
 
 # ---- cases: slow readers, signals
@@ -260,35 +365,37 @@ def narrow_pipe():
     run = Run()
     fcntl.fcntl(run.process.stdout, fcntl.F_SETPIPE_SZ, 4096)
     run.feed([DATA])
-    answers = run.take(most=lambda: rng.randint(1, 500))
+    written = run.take(most=lambda: rng.randint(1, 500))
     run.end_well()
-    same(answers, EXPECTED)
+    same(written, WORK.due(len(DATA)))
 
 
 def one_byte_writes():
-    """More than 60,000 writes for what one read brought: a program that gives up after some thousands shows it."""
-    same(answers_of(4 * DATA[:300 * REQUEST], environment=preloaded(WRITE_AT_MOST='1')), 4 * EXPECTED[:300 * ANSWER])
+    """For answers more than 60,000 writes for what one read brought: a program that gives up after some thousands shows it."""
+    same(written_for(4 * DATA[:RECORDS * SIZE], environment=preloaded(WRITE_AT_MOST='1')), WORK.due_of_whole(4))
 
 
 def interrupted():
     for start in range(1, 9):
         run = Run(environment=preloaded(INTERRUPTED=str(start)))
         run.feed([DATA])
-        answers = run.take()
+        written = run.take()
         run.end_well()
-        same(answers, EXPECTED)
+        same(written, WORK.due(len(DATA)))
 
 
 def stopped():
     run = Run()
     for i in range(5):
         run.process.send_signal(signal.SIGSTOP)
-        write_all(run.process.stdin.fileno(), DATA[REQUEST * i:REQUEST * (i + 1)])
+        write_all(run.process.stdin.fileno(), DATA[SIZE * i:SIZE * (i + 1)])
         time.sleep(0.02)
         run.process.send_signal(signal.SIGCONT)
-        same(run.take(ANSWER), EXPECTED[ANSWER * i:ANSWER * (i + 1)])
+        take_due(run, i, i + 1)
     run.feed([])
+    written = run.take()
     run.end_well()
+    same(WORK.due_before_the_end(5) + written, WORK.due(5 * SIZE))
 
 
 # ---- cases: failed writes
@@ -301,12 +408,12 @@ def full_device():
 
 
 def into_file(length, size):
-    """The answers to so many bytes, into a file of so many at most: what does not go into it is told."""
-    due = EXPECTED[:-(-length // REQUEST) * ANSWER]
+    """What is written for so many bytes, into a file of so many at most: what does not go into it is told."""
+    due = WORK.due(length)
     with file_with(DATA[:length]) as file, tempfile.TemporaryFile() as out:
         run = Run(stdin=file, stdout=out, file_size=size)
         if size < len(due):
-            run.end_failed('write', size // ANSWER)
+            run.end_failed('write', size)
         else:
             run.end_well()
         out.seek(0)
@@ -314,36 +421,43 @@ def into_file(length, size):
 
 
 def file_too_large():
-    """The last write that succeeds is short, or whole if the next has no room. It ends within an answer, or behind whole ones; the
-    answers to whole requests are one write, and that to a last part is another."""
-    for whole in (10, 299):
-        for size in (whole * ANSWER, whole * ANSWER + 50, whole * ANSWER + ANSWER - 1):
-            into_file(300 * REQUEST, size)
-            into_file(len(DATA), size)
+    """The last write that succeeds is short, or whole if the next has no room."""
+    for size in WORK.sizes():
+        into_file(RECORDS * SIZE, size)
+        into_file(len(DATA), size)
 
 
 def file_too_large_for_last():
-    for size in (300 * ANSWER, 300 * ANSWER + 1, 300 * ANSWER + 50, 301 * ANSWER - 1):
+    for size in (RECORDS * ANSWER, RECORDS * ANSWER + 1, RECORDS * ANSWER + REST, (RECORDS + 1) * ANSWER - 1):
         into_file(len(DATA), size)
 
 
 def file_just_right():
-    into_file(300 * REQUEST, 300 * ANSWER)
-    into_file(len(DATA), 301 * ANSWER)
+    for length in (RECORDS * SIZE, len(DATA)):
+        into_file(length, len(WORK.due(length)))
 
 
 def until_closed(**settings):
-    """Far more requests than a pipe has room for, of which the reader takes three answers."""
+    """Far more than a pipe has room for, of which the reader takes what is due to three records, and is gone before the end."""
+    gone = threading.Event()
+
+    def pieces():
+        for _ in range(39):
+            yield DATA[:RECORDS * SIZE]
+        gone.wait()
+        yield DATA[:RECORDS * SIZE]
+
     run = Run(**settings)
-    run.feed([DATA[:300 * REQUEST]] * 40)
-    same(run.take(3 * ANSWER), EXPECTED[:3 * ANSWER])
+    run.feed(pieces())
+    take_due(run, 0, 3)
     run.process.stdout.close()
+    gone.set()
     return run
 
 
 def closed_pipe():
     written = until_closed().end_failed('write')
-    expect(3 <= written < 300 * 40, f'{written} answers written')
+    expect(WORK.told == '' or 3 <= written < RECORDS * 40, f'{written} answers written')
 
 
 def closed_pipe_signal():
@@ -363,16 +477,17 @@ def directory():
 
 
 def reset():
-    """The socket is reset after five requests and a part, which is no last part: the input has no end."""
+    """The socket is reset after five records and a part, which is no last part: the input has no end."""
     ours, theirs = socket.socketpair()
     theirs.send(b'not read by us when we close')
     run = Run(stdin=theirs)
     theirs.close()
-    ours.sendall(DATA[:5 * REQUEST + 50])
-    answers = run.take(5 * ANSWER)
+    ours.sendall(DATA[:5 * SIZE + REST])
+    due = WORK.due_before_the_end(5)
+    written = run.take(len(due))
     ours.close()
-    same(answers + run.take(), EXPECTED[:5 * ANSWER])
-    run.end_failed('read', 5)
+    same(written + run.take(), due)
+    run.end_failed('read', len(due))
 
 
 # ---- cases: closed files
@@ -399,29 +514,33 @@ def errors_closed():
         expect(run.said == '' and status == (1 if KIND == 'host' else 0), f'status {status}, and said {run.said!r}')
 
 
+ANSWERS_ALONE, TALLY_ALONE, BOTH = (Answering,), (Tallying,), (Answering, Tallying)
+
 CASES = [
-    ('a whole file', whole_file),
-    ('an empty one', empty),
-    ('input in pieces of random length', short_reads),
-    ('input byte by byte', single_bytes),
-    ('reads of one byte each', one_byte_reads),
-    ('more than a million requests', million),
-    ('a slow pipe is served', served),
-    ('a narrow pipe, read in pieces of random length', narrow_pipe),
-    ('writes of one byte each', one_byte_writes),
-    ('reads and writes interrupted or short', interrupted),
-    ('stopped and continued', stopped),
-    ('a full device', full_device),
-    ('a file that may not grow', file_too_large),
-    ('a file with no room for the last answer', file_too_large_for_last),
-    ('a file with just enough room', file_just_right),
-    ('a closed pipe', closed_pipe),
-    ('a closed pipe, by its signal', closed_pipe_signal),
-    ('a directory as input', directory),
-    ('a socket that is reset', reset),
-    ('standard input closed', input_closed),
-    ('standard output closed', output_closed),
-    ('standard error closed too', errors_closed),
+    ('a whole file', whole_file, BOTH),
+    ('an empty one', empty, ANSWERS_ALONE),
+    ('an empty one', empty_listing, TALLY_ALONE),
+    ('input in pieces of random length', short_reads, BOTH),
+    ('input byte by byte', single_bytes, BOTH),
+    ('reads of one byte each', one_byte_reads, BOTH),
+    ('more than a million requests', million_requests, ANSWERS_ALONE),
+    ('more than a million answers', million_answers, TALLY_ALONE),
+    ('a slow pipe is served', served, ANSWERS_ALONE),
+    ('a narrow pipe, read in pieces of random length', narrow_pipe, BOTH),
+    ('writes of one byte each', one_byte_writes, BOTH),
+    ('reads and writes interrupted or short', interrupted, BOTH),
+    ('stopped and continued', stopped, BOTH),
+    ('a full device', full_device, BOTH),
+    ('a file that may not grow', file_too_large, BOTH),
+    ('a file with no room for the last answer', file_too_large_for_last, ANSWERS_ALONE),
+    ('a file with just enough room', file_just_right, BOTH),
+    ('a closed pipe', closed_pipe, BOTH),
+    ('a closed pipe, by its signal', closed_pipe_signal, BOTH),
+    ('a directory as input', directory, BOTH),
+    ('a socket that is reset', reset, BOTH),
+    ('standard input closed', input_closed, BOTH),
+    ('standard output closed', output_closed, BOTH),
+    ('standard error closed too', errors_closed, BOTH),
 ]
 
 
@@ -440,7 +559,9 @@ def drops_ignored():
 
 def main():
     wrong = 0
-    for name, case in CASES:
+    for name, case, works in CASES:
+        if not isinstance(WORK, works):
+            continue
         began = time.monotonic()
         try:
             case()

@@ -9,6 +9,7 @@ import unittest
 TOP = os.path.dirname(os.path.dirname(os.path.dirname(os.path.abspath(__file__))))
 sys.path.insert(0, os.path.join(TOP, 'tools'))
 
+KINDS = ['eigen2', 'eigen3', 'svd2', 'svd3', 'cholesky2', 'cholesky3', 'solve2', 'solve3']
 H = struct.unpack('<d', bytes.fromhex('CD3B7F669EA0E63F'))[0]
 
 

@@ -1,5 +1,7 @@
 """The examples: the list, how the night was made, and what it is answered with."""
 import collections
+import csv
+import io
 import json
 import os
 import struct
@@ -7,10 +9,11 @@ import subprocess
 import sys
 import unittest
 
-from support import TOP, ToolTest
+from support import KINDS, TOP, ToolTest
 
 EXAMPLES = os.path.join(TOP, 'examples')
 ANSWERS = os.path.join(EXAMPLES, 'night.answers')
+TALLY = os.path.join(EXAMPLES, 'night.tally')
 
 
 def content(path):
@@ -55,8 +58,27 @@ class Night(ToolTest):
         self.assertEqual(codes, {0: len(self.whole) - 16, 1: 1, 3: 3, 4: 3, 5: 3, 6: 4, 7: 3})
         self.assertEqual(shown[-1]['code'], 1)
         self.assertEqual([answer['rotations'] for answer in shown if answer['settled'] is False], [25])
-        self.assertEqual({answer['kind'] for answer in shown if answer['code'] == 0},
-                         {'eigen2', 'eigen3', 'svd2', 'svd3', 'cholesky2', 'cholesky3', 'solve2', 'solve3'})
+        self.assertEqual({answer['kind'] for answer in shown if answer['code'] == 0}, set(KINDS))
+
+    def test_its_tally(self):
+        """The listing has what is found by looking at each answer."""
+        _, out, _ = self.run_tool('show-answers', '--json', ANSWERS)
+        expected = collections.Counter()
+        for answer in map(json.loads, out.splitlines()):
+            row = str(KINDS.index(answer['kind']) + 1) if answer['kind'] in KINDS else 'other'
+            expected[row, f"code {answer['code']}"] += 1
+            expected['total', f"code {answer['code']}"] += 1
+            expected['', 'records'] += 1
+            if answer['code'] == 0:
+                mark = 'settled' if answer['settled'] else 'unsettled'
+                expected[row, mark] += 1
+                expected['total', mark] += 1
+            if answer['rotations'] is not None:
+                expected[row, f"rotations {answer['rotations']}"] += 1
+        status, out, err = self.run_tool('show-tally', '--csv', TALLY)
+        self.assertEqual((status, err), (0, ''))
+        rows = csv.DictReader(io.StringIO(out.decode('utf-8')))
+        self.assertEqual({(row['kind'], row['what']): int(row['count']) for row in rows if row['count'] != '0'}, expected)
 
 
 if __name__ == '__main__':

@@ -8,10 +8,9 @@ import subprocess
 import sys
 import unittest
 
-from support import (ANSWERED, CHOLESKY2, CHOLESKY3, CUT, EIGEN2, EIGEN3, H, REFUSED, SOLVE2, SOLVE3, SVD2, SVD3, TOP,
-                     UNSETTLED, ToolTest, answer, spoilt)
+from support import (ANSWERED, CHOLESKY2, CHOLESKY3, CUT, EIGEN2, EIGEN3, H, KINDS, REFUSED, SOLVE2, SOLVE3, SVD2, SVD3,
+                     TOP, UNSETTLED, ToolTest, answer, spoilt)
 
-KINDS = ['eigen2', 'eigen3', 'svd2', 'svd3', 'cholesky2', 'cholesky3', 'solve2', 'solve3']
 FRAME = '--frame=x=north,y=east,z=down'
 
 
