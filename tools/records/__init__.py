@@ -1,1 +1,1 @@
-"""Requests and answers of the recorder, for people: what make-requests and show-answers share."""
+"""Requests and answers of the recorder, for people: what the tools share."""

@@ -24,6 +24,10 @@ class Input:
         """So many bytes, fewer only at the end; all that are left where no count is given."""
         return self.guarded(lambda: self.stream.read(count))
 
+    def readline(self, most):
+        """The next line with its end, or as much of it; nothing behind the last one."""
+        return self.guarded(lambda: self.stream.readline(most))
+
     def guarded(self, action):
         try:
             return action()
