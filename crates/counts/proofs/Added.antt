@@ -1,25 +1,18 @@
 -- The sum of two tallies: numbers are added place by place, so which tally comes first is the same, and a sum is refused exactly where some count passes.
-use Rattle.float.proofs.Words.{_≡_, refl, sym, ap, _∙_, subst, Bool, true, false, List, [], _∷_, _++_, map, ℕ, zero, suc, _+_, _*_, _^_, _≤_, _<_}
-use Rattle.float.proofs.Words.{arith, lt-ltb, length, getD, replicate, Format}
+use Rattle.float.proofs.Words.{_≡_, sym, ap, _∙_, Bool, true, false, List, [], _∷_, _++_, map, ℕ, zero, suc, _+_, _*_, _^_, _≤_, _<_}
+use Rattle.float.proofs.Words.{arith, lt-ltb, length, getD, Format}
 use native.Mathlib.Nat.{div-le-self, mod-le}
+use Rattle.float.proofs.Choice.{so-or-not}
 use Rattle.record.specs.Layout.{answerSize}
 use Rattle.record.specs.Stream.{answerOf}
 use Rattle.counts.specs.Known.{headOf}
 use Rattle.counts.specs.Cells.{Cell, countedIn, cells, tallySize}
 use Rattle.counts.specs.Tally.{Tally, one, countedOf, recordsOf, leftOver, plusOf, allFit, sumOf, tallyOf, emptyTally}
-use Rattle.counts.proofs.Sums.{plus-comm, plus-assoc, plus-zero, plus-length, part-fits, fits-each, each-fits}
+use Rattle.counts.proofs.Sums.{plus-comm, plus-assoc, plus-zeros, plus-length, part-fits, fits-each, each-fits, sum-fits-each, each-of-sum}
 use Rattle.counts.proofs.Files.{tally-length}
 use Rattle.counts.proofs.Cut.{cut}
 
 -- ---- refused exactly where a count passes 64 bits
-
-pub plus-at : (xs ys : List ℕ) → length ys ≡ length xs → (i : ℕ) → getD (plusOf xs ys) i 0 ≡ getD xs i 0 + getD ys i 0
-unfolding plusOf
-plus-at [] [] e i = refl
-plus-at [] (y ∷ ys) e i = absurd (omega arith)
-plus-at (x ∷ xs) [] e i = absurd (omega arith)
-plus-at (x ∷ xs) (y ∷ ys) e zero = refl
-plus-at (x ∷ xs) (y ∷ ys) e (suc i) = plus-at xs ys (omega arith) i
 
 module _ (xs ys : List ℕ) where
   taken-sum : allFit (plusOf xs ys) ≡ true → sumOf xs ys ≡ record { code = 0; counts = plusOf xs ys }
@@ -31,23 +24,16 @@ module _ (xs ys : List ℕ) where
   module _ (n : length ys ≡ length xs) where
     -- no count passes: the sum
     pub none-passes : ((i : ℕ) → getD xs i 0 + getD ys i 0 < 2 ^ 64) → sumOf xs ys ≡ record { code = 0; counts = plusOf xs ys }
-    none-passes h = taken-sum (fits-each (plusOf xs ys) (λ i. subst (λ (k : ℕ). k < 2 ^ 64) (sym (plus-at xs ys n i)) (h i)))
+    none-passes h = taken-sum (sum-fits-each xs ys n h)
 
     -- one does: 14, and zeros
     pub one-passes : (i : ℕ) → 2 ^ 64 ≤ getD xs i 0 + getD ys i 0 → sumOf xs ys ≡ record { code = 14; counts = emptyTally }
-    one-passes i h = refused-sum (past (allFit (plusOf xs ys)) refl)
-      where
-        past : (t : Bool) → allFit (plusOf xs ys) ≡ t → allFit (plusOf xs ys) ≡ false
-        past true e = absurd (omega (arith, subst (λ (k : ℕ). k < 2 ^ 64) (plus-at xs ys n i) (each-fits (plusOf xs ys) e i)))
-        past false e = e
+    one-passes i h = refused-sum (so-or-not (allFit (plusOf xs ys)) (λ e. absurd (omega (arith, each-of-sum xs ys n e i))) (λ e. e))
 
   -- the two codes
   pub fits-told : sumOf xs ys .code ≡ 0 → allFit (plusOf xs ys) ≡ true
-  fits-told e = by (allFit (plusOf xs ys)) refl
-    where
-      by : (t : Bool) → allFit (plusOf xs ys) ≡ t → allFit (plusOf xs ys) ≡ true
-      by true k = k
-      by false k = absurd (omega (arith, sym (ap (λ (t : Tally). t .code) (refused-sum k)) ∙ e))
+  fits-told e =
+      so-or-not (allFit (plusOf xs ys)) (λ k. k) (λ k. absurd (omega (arith, sym (ap (λ (t : Tally). t .code) (refused-sum k)) ∙ e)))
 
 -- ---- the laws of the sum
 
@@ -68,7 +54,7 @@ sum-assoc xs ys zs n m p q =
 
 pub sum-empty : (xs : List ℕ) → length xs ≡ tallySize → ((i : ℕ) → getD xs i 0 < 2 ^ 64) → sumOf xs emptyTally ≡ record { code = 0; counts = xs }
 sum-empty xs n h =
-    let z : plusOf xs emptyTally ≡ xs = subst (λ (k : ℕ). plusOf xs (replicate k 0) ≡ xs) n (plus-zero xs) in
+    let z = plus-zeros xs tallySize n in
     taken-sum xs emptyTally (ap allFit z ∙ fits-each xs h) ∙ ap (λ (l : List ℕ). record { code = 0; counts = l }) z
 
 -- ---- a file cut behind whole records
@@ -76,8 +62,7 @@ sum-empty xs n h =
 pub sum-of-parts : (f : Format) (a b : List ℕ) (m : ℕ) → length a ≡ answerSize f * m → sumOf (tallyOf f a) (tallyOf f b) ≡ sumOf emptyTally (tallyOf f (a ++ b))
 sum-of-parts f a b m h =
     let t = tallyOf f (a ++ b) in
-    let z : plusOf emptyTally t ≡ t =
-    plus-comm emptyTally t ∙ subst (λ (k : ℕ). plusOf t (replicate k 0) ≡ t) (tally-length f (a ++ b)) (plus-zero t) in
+    let z : plusOf emptyTally t ≡ t = plus-comm emptyTally t ∙ plus-zeros t tallySize (tally-length f (a ++ b)) in
     rw (z, cut f a b m h)
 
 -- ---- the tally of a slice is never refused: no count is larger than the number of bytes

@@ -8,7 +8,7 @@ use Rattle.counts.specs.Known.{headOf, codes, marks, mostTurns, among, f
 use Rattle.counts.specs.Cells.{Cell, coded, marked, turned, foreign, rowOf, countedIn, upTo, rowNumbers, turning, cells, placeOf, foreignAt, leftAt}
 use Rattle.counts.specs.Tally.{one, countedOf, recordsOf, leftOver, tallyOf, total}
 use Rattle.counts.specs.declared.known.Head.{Head}
-use Rattle.counts.proofs.ByCell.{every, passes, map-same, getD-mapped}
+use Rattle.counts.proofs.ByCell.{every, passes, map-same, map-each, getD-mapped}
 use Rattle.counts.proofs.Listed.{listed, Listed, listed-below, listed-there, codes-listed, row-turns, coded-listed, marked-listed, turned-listed}
 use Rattle.counts.proofs.Placed.{row-known, row-turning, code-known, answer-known, mark-known, turns-known}
 
@@ -113,10 +113,10 @@ all-adds = record {
       let row-adds : (row : ℕ) → rowCodes (λ (c : Cell). g c + h c) row ≡ rowCodes g row + rowCodes h row =
       λ row. total-plus (λ (code : ℕ). g (coded row code)) (λ (code : ℕ). h (coded row code)) codes in
       let each : total (map (rowCodes (λ (c : Cell). g c + h c)) rowNumbers) ≡ total (map (λ (row : ℕ). rowCodes g row + rowCodes h row) rowNumbers) =
-      ap total (map-same (λ (row : ℕ). true) _ _ rowNumbers refl (λ row _. row-adds row)) in
+      ap total (map-each _ _ rowNumbers row-adds) in
       let both = total-plus (rowCodes g) (rowCodes h) rowNumbers in
       omega (arith, each ∙ both));
-  none = ap (λ (n : ℕ). n + 0) (ap total (map-same (λ (row : ℕ). true) _ (λ (row : ℕ). 0) rowNumbers refl (λ row _. total-none codes)) ∙ total-none rowNumbers);
+  none = ap (λ (n : ℕ). n + 0) (ap total (map-each _ (λ (row : ℕ). 0) rowNumbers (λ row. total-none codes)) ∙ total-none rowNumbers);
 }
 
 -- how often a row and a code are met

@@ -47,6 +47,10 @@ module _ {A : Type 0} where
       let b = both-true (t a) (every t l) e in
       (rw (same a (b .0), map-same t g h l (b .1) same))
 
+  pub map-each : (g h : A → ℕ) (l : List A) → ((a : A) → g a ≡ h a) → map g l ≡ map h l
+  map-each g h [] same = refl
+  map-each g h (a ∷ l) same = rw (same a, map-each g h l same)
+
   pub getD-mapped : (g : A → ℕ) (l : List A) (d : A) (x : List ℕ) (i : ℕ) → i < length l → getD (map g l ++ x) i 0 ≡ g (getD l i d)
   getD-mapped g [] d x i h = absurd (omega arith)
   getD-mapped g (a ∷ l) d x zero h = refl

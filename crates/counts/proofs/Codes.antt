@@ -1,31 +1,34 @@
 -- The tests of the lengths come first, and the sum is refused exactly where a count passes: each call's code is that of its rows.
-use Rattle.float.proofs.Words.{_≡_, refl, sym, ap, _∙_, subst, true≢false, List, [], _∷_, inl, inr, ℕ, _<_, _^_, eq-eqb, ne-eqb, length, Format}
+use Rattle.float.proofs.Words.{_≡_, refl, sym, ap, _∙_, true≢false, List, [], _∷_, inl, inr, ℕ, eqb, _<_, _^_, eq-eqb, ne-eqb, length, Format}
+use Rattle.float.specs.Choice.{pick}
 use Rattle.float.proofs.Choice.{so-or-not, whether}
 use Rattle.matrix.specs.Rows.{Row, on, Gives, WrongLength}
 use Rattle.record.specs.Layout.{answerSize}
 use Rattle.counts.specs.Cells.{tallySize}
 use Rattle.counts.specs.Tally.{Tally, plusOf, allFit, tallyOf, emptyTally, sumOf, roomFor, sized, clearedOf, withRecord, withFile, talliedOf, withTally}
 use Rattle.counts.specs.Refused.{TooLarge, clearRows, recordRows, fileRows, addRows}
-use Rattle.counts.proofs.Sums.{fits-each, each-fits}
-use Rattle.counts.proofs.Added.{plus-at, tally-fits}
+use Rattle.counts.proofs.Sums.{sum-fits-each, each-of-sum}
+use Rattle.counts.proofs.Added.{tally-fits}
 use Rattle.counts.proofs.Files.{tally-length}
+
+-- a length that is tested first: its row, and those behind it
+length-row : {A : Type 0} (code : A → ℕ) (xs : List ℕ) (size k : ℕ) (a b : A) (rs : List Row) → code b ≡ k
+    → (length xs ≡ size → Gives rs (code a)) → Gives (on k (WrongLength xs size) ∷ rs) (code (pick (eqb (length xs) size) a b))
+length-row code xs size k a b rs e g =
+    whether (length xs) size (λ n. rw (eq-eqb (length xs) size n) (inr ((λ w. w n), g n))) (λ n. rw (ne-eqb (length xs) size n) (inl (n, e)))
 
 room-codes : (counts : List ℕ) (t : Tally) (rs : List Row) → (length counts ≡ tallySize → Gives rs (t .code))
     → Gives (on 2 (WrongLength counts tallySize) ∷ rs) (roomFor counts t .code)
-room-codes counts t rs g =
-    whether (length counts) tallySize (λ e. rw (eq-eqb (length counts) tallySize e) (inr ((λ w. w e), g e)))
-    (λ n. rw (ne-eqb (length counts) tallySize n) (inl (n, refl)))
+room-codes counts t rs = length-row (λ (t : Tally). t .code) counts tallySize 2 t (record { code = 2; counts = counts }) rs refl
 
 sized-codes : (xs : List ℕ) (size : ℕ) (counts : List ℕ) (t : Tally) (rs : List Row) → (length xs ≡ size → Gives rs (t .code))
     → Gives (on 1 (WrongLength xs size) ∷ rs) (sized (length xs) size counts t .code)
-sized-codes xs size counts t rs g =
-    whether (length xs) size (λ e. rw (eq-eqb (length xs) size e) (inr ((λ w. w e), g e))) (λ n. rw (ne-eqb (length xs) size n) (inl (n, refl)))
+sized-codes xs size counts t rs = length-row (λ (t : Tally). t .code) xs size 1 t (record { code = 1; counts = counts }) rs refl
 
 sum-codes : (xs ys : List ℕ) → length ys ≡ length xs → Gives (on 14 (TooLarge xs ys) ∷ []) (sumOf xs ys .code)
 sum-codes xs ys n =
-    so-or-not (allFit (plusOf xs ys))
-    (λ e. rw e (inr ((λ w. w (λ i. subst (λ (k : ℕ). k < 2 ^ 64) (plus-at xs ys n i) (each-fits (plusOf xs ys) e i))), refl)))
-    (λ e. rw e (inl ((λ h. true≢false (sym (fits-each (plusOf xs ys) (λ i. subst (λ (k : ℕ). k < 2 ^ 64) (sym (plus-at xs ys n i)) (h i))) ∙ e)), refl)))
+    so-or-not (allFit (plusOf xs ys)) (λ e. rw e (inr ((λ w. w (each-of-sum xs ys n e)), refl)))
+    (λ e. rw e (inl ((λ h. true≢false (sym (sum-fits-each xs ys n h) ∙ e)), refl)))
 
 -- ---- the calls
 

@@ -1,5 +1,5 @@
 -- A file cut behind whole records has the records of both parts, each in its own part, and the bytes left over of the second part.
-use Rattle.float.proofs.Words.{_≡_, refl, sym, ap, _∙_, true, List, [], _∷_, _++_, map, ℕ, zero, suc, _+_, _*_, _≤_, mul-suc, mul-add, arith}
+use Rattle.float.proofs.Words.{_≡_, refl, sym, ap, _∙_, List, [], _∷_, _++_, map, ℕ, zero, suc, _+_, _*_, _≤_, mul-suc, mul-add, arith}
 use Rattle.float.proofs.Words.{add-assoc, add-comm, add-zero, zero-add, length, drop, length-append, length-drop, drop-append-add, Format}
 use native.Mathlib.Nat.{add-mul-div-left, add-mul-mod-self-left, mul-div-right, mul-mod-right}
 use lib.Seq.{take-append-le, drop-append-le}
@@ -8,7 +8,7 @@ use Rattle.record.specs.Stream.{answerOf}
 use Rattle.counts.specs.Known.{headOf}
 use Rattle.counts.specs.Cells.{Cell, countedIn, cells}
 use Rattle.counts.specs.Tally.{one, countedOf, recordsOf, leftOver, tallyOf, plusOf}
-use Rattle.counts.proofs.ByCell.{map-same, plus-mapped}
+use Rattle.counts.proofs.ByCell.{map-each, plus-mapped}
 
 module _ (f : Format) (a b : List ℕ) where
   -- ---- a record of the first part
@@ -64,6 +64,6 @@ module _ (f : Format) (a b : List ℕ) where
     cut =
         ap (λ (n : ℕ). map (λ (c : Cell). countedOf f c (recordsOf f (a ++ b)) (a ++ b)) cells ++ (n ∷ [])) left-cut
         ∙ ap (λ (l : List ℕ). l ++ ((leftOver f a + leftOver f b) ∷ []))
-        (map-same (λ (c : Cell). true) _ (λ (c : Cell). countedOf f c (recordsOf f a) a + countedOf f c (recordsOf f b) b) cells refl (λ c _. counted-cut c))
+        (map-each _ (λ (c : Cell). countedOf f c (recordsOf f a) a + countedOf f c (recordsOf f b) b) cells counted-cut)
         ∙ sym
         (plus-mapped (λ (c : Cell). countedOf f c (recordsOf f a) a) (λ (c : Cell). countedOf f c (recordsOf f b) b) cells (leftOver f a) (leftOver f b))

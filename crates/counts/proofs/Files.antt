@@ -1,6 +1,6 @@
 -- A file is counted record by record: the tally of the first i records with the next one's is that of the first i + 1, and the bytes left over have none.
 use Rattle.float.proofs.Words.{_≡_, refl, sym, ap, _∙_, subst, Bool, true, false, List, [], ℕ, _+_, _*_, _≤_, _<_, mul-suc, mul-comm, arith, add-one}
-use Rattle.float.proofs.Words.{div-eq-of-lt, mod-lt, mod-eq-of-lt, div-mul-le-self, div-add-mod', length, take, drop, length-take, length-drop}
+use Rattle.float.proofs.Words.{div-eq-of-lt, mod-lt, mod-eq-of-lt, div-mul-le-self, div-add-mod', length, take, drop, length-take, length-take-le, length-drop}
 use Rattle.float.proofs.Words.{take-append-drop, Format}
 use Rattle.float.proofs.Words.{binary32, binary64}
 use lib.Seq.{take-add}
@@ -28,9 +28,6 @@ no-tally binary32 = rest-tally binary32 [] (omega arith)
 no-tally binary64 = rest-tally binary64 [] (omega arith)
 
 module _ (f : Format) (s : List ℕ) where
-  front-length : (n : ℕ) → n ≤ length s → length (take n s) ≡ n
-  front-length n h = rw length-take (omega arith)
-
   -- one record more
   pub record-more : (i : ℕ) → answerSize f * i + answerSize f ≤ length s
       → plusOf (tallyOf f (take (answerSize f * i) s)) (headTally (headOf (answerOf f i s))) ≡ tallyOf f (take (answerSize f * (i + 1)) s)
@@ -38,13 +35,13 @@ module _ (f : Format) (s : List ℕ) where
       let one : length (answerOf f i s) ≡ answerSize f = rw (length-take, length-drop) (omega arith) in
       let e : answerSize f * (i + 1) ≡ answerSize f * i + answerSize f = rw (add-one i, mul-suc (answerSize f) i) in
       rw (e, take-add (answerSize f * i) (answerSize f) s, ← head-tally f (answerOf f i s) one)
-      (sym (cut f (take (answerSize f * i) s) (answerOf f i s) i (front-length (answerSize f * i) (omega arith))))
+      (sym (cut f (take (answerSize f * i) s) (answerOf f i s) i (length-take-le (answerSize f * i) s (omega arith))))
 
   -- the records behind the first i are still to come
   pub still-to-come : (i : ℕ) → answerSize f * i ≤ length s
       → plusOf (tallyOf f (take (answerSize f * i) s)) (tallyOf f (drop (answerSize f * i) s)) ≡ tallyOf f s
   still-to-come i h =
-      sym (cut f (take (answerSize f * i) s) (drop (answerSize f * i) s) i (front-length (answerSize f * i) h))
+      sym (cut f (take (answerSize f * i) s) (drop (answerSize f * i) s) i (length-take-le (answerSize f * i) s h))
       ∙ ap (tallyOf f) (take-append-drop (answerSize f * i) s)
 
   whole-fit : answerSize f * recordsOf f s ≤ length s

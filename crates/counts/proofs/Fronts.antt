@@ -4,7 +4,7 @@ use Rattle.float.proofs.Words.{replicate, le-of-suc-le-suc}
 use lib.ListN.{length-replicate}
 use Rattle.counts.specs.Tally.{plusOf}
 use Rattle.counts.specs.Adding.{Summed, only}
-use Rattle.counts.proofs.Sums.{plus-zero, plus-comm, then-summed, stays-past}
+use Rattle.counts.proofs.Sums.{plus-zero, plus-zeros, plus-comm, then-summed, stays-past}
 
 abbrev pub front : ℕ → List ℕ → List ℕ
 front zero xs = replicate (length xs) 0
@@ -40,11 +40,9 @@ front-all (x ∷ xs) = ap (λ (l : List ℕ). x ∷ l) (front-all xs)
 pub front-more : (i : ℕ) (xs : List ℕ) → i < length xs → plusOf (front i xs) (only (length xs) i (getD xs i 0)) ≡ front (suc i) xs
 unfolding plusOf
 front-more i [] h = absurd (omega arith)
-front-more zero (x ∷ xs) h = rw (zero-add x) (ap (λ (l : List ℕ). x ∷ l) (no-more (length xs)))
-  where
-    no-more : (n : ℕ) → plusOf (replicate n 0) (replicate n 0) ≡ replicate n 0
-    no-more zero = refl
-    no-more (suc n) = ap (λ (l : List ℕ). 0 ∷ l) (no-more n)
+front-more zero (x ∷ xs) h =
+    let zeros : List ℕ = replicate (length xs) 0 in
+    rw (zero-add x) (ap (λ (l : List ℕ). x ∷ l) (plus-zeros zeros (length xs) (length-replicate (length xs) 0)))
 front-more (suc i) (x ∷ xs) h = rw (add-zero x, front-more i xs (le-of-suc-le-suc h))
 
 -- ---- an adding, count by count

@@ -16,7 +16,7 @@ use Rattle.counts.specs.Cells.{Cell, coded, marked, turned, foreign, row
 use Rattle.counts.specs.Tally.{one, countedOf, recordsOf, tallyOf, plusOf}
 use Rattle.counts.specs.Adding.{only, oneIn, headTally, markParts, headParts}
 use Rattle.counts.specs.declared.known.Head.{Head}
-use Rattle.counts.proofs.ByCell.{every, up-to, map-same, plus-mapped}
+use Rattle.counts.proofs.ByCell.{every, up-to, map-same, map-each, plus-mapped}
 use Rattle.counts.proofs.Listed.{same, Listed, listed-below, coded-listed, marked-listed, turned-listed, byCell, one-in}
 
 -- ---- the rows of the kinds
@@ -27,10 +27,7 @@ row-known = each-kind (λ (k : Kind). among (k .number) rowNumbers ≡ true) ref
 pub row-turning : (n : ℕ) → among (kindNumbered n .number) turning ≡ kindNumbered n .counts
 row-turning = each-kind (λ (k : Kind). among (k .number) turning ≡ k .counts) refl refl refl refl refl refl refl refl refl
 
--- ---- tests of a cell, and how often it is another one
-
-abbrev any : Cell → Bool
-any d = true
+-- ---- a test of a cell, and how often it is another one
 
 -- rotations have cells in the rows that count them
 abbrev inTurning : Cell → Bool
@@ -149,17 +146,21 @@ module _ (h : Head) where
   unfolding headTally
   by-cell t g e same-in = ap (λ (l : List ℕ). l ++ (0 ∷ [])) (map-same t (λ (d : Cell). one (countedIn d h)) g cells e same-in)
 
+  by-each : (g : Cell → ℕ) → ((d : Cell) → one (countedIn d h) ≡ g d) → headTally h ≡ byCell g
+  unfolding headTally
+  by-each g same-in = ap (λ (l : List ℕ). l ++ (0 ∷ [])) (map-each (λ (d : Cell). one (countedIn d h)) g cells same-in)
+
   foreign-parts : foreignOf h ≡ true → headTally h ≡ oneIn foreign
-  foreign-parts e = by-cell any (In foreign) refl (λ d _. foreign-counted e d) ∙ sym (one-in foreign refl)
+  foreign-parts e = by-each (In foreign) (foreign-counted e) ∙ sym (one-in foreign refl)
 
   refused-parts : foreignOf h ≡ false → eqb (h .code) 0 ≡ false → headTally h ≡ oneIn codeCell
-  refused-parts e z = by-cell any (In codeCell) refl (λ d _. refused-counted e z d) ∙ sym (one-in codeCell (code-listed e))
+  refused-parts e z = by-each (In codeCell) (refused-counted e z) ∙ sym (one-in codeCell (code-listed e))
 
   turned-parts : foreignOf h ≡ false → eqb (h .code) 0 ≡ true → kindNumbered (h .kind) .counts ≡ true
       → headTally h ≡ plusOf (oneIn codeCell) (plusOf (oneIn markCell) (oneIn turnCell))
   turned-parts e z c =
       let k = answer-known e z in
-      by-cell any (λ (d : Cell). In codeCell d + (In markCell d + In turnCell d)) refl (λ d _. turned-counted e z d)
+      by-each (λ (d : Cell). In codeCell d + (In markCell d + In turnCell d)) (turned-counted e z)
       ∙ sym
       (ap (λ (l : List ℕ). plusOf l (plusOf (oneIn markCell) (oneIn turnCell))) (one-in codeCell (code-listed e))
       ∙ ap (λ (l : List ℕ). plusOf (byCell (In codeCell)) (plusOf l (oneIn turnCell))) (one-in markCell (mark-listed k))
@@ -201,4 +202,4 @@ module _ (f : Format) (r : List ℕ) (h : length r ≡ answerSize f) where
   unfolding tallyOf headTally
   head-tally =
       ap (λ (n : ℕ). map (λ (c : Cell). countedOf f c (recordsOf f r) r) cells ++ (n ∷ [])) (ap (λ (n : ℕ). n % answerSize f) h ∙ mod-self (answerSize f))
-      ∙ ap (λ (l : List ℕ). l ++ (0 ∷ [])) (map-same (λ (c : Cell). true) _ (λ (c : Cell). one (countedIn c (headOf r))) cells refl (λ c _. counted-once c))
+      ∙ ap (λ (l : List ℕ). l ++ (0 ∷ [])) (map-each _ (λ (c : Cell). one (countedIn c (headOf r))) cells counted-once)

@@ -42,6 +42,6 @@ among n (m ∷ ms) = eqb n m || among n ms
 abbrev pub knownAnswer : Head → Bool
 knownAnswer h = knownKind (h .kind) && (among (h .mark) marks && leb (h .turns) (mostTurnsOf (kindNumbered (h .kind))))
 
--- the code is none of these, or it is 0 and the rest is not known; with any other code the rest is not judged, since a refusal counts nothing
+-- the code is none of these, or it is 0 and the rest is not known; with any other code the rest is not judged: byte 6 may be a pivot's number
 unfoldable pub foreignOf : Head → Bool
 foreignOf h = not (among (h .code) codes) || (eqb (h .code) 0 && not (knownAnswer h))

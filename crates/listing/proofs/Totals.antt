@@ -1,6 +1,7 @@
 -- Sums that fit 64 bits or not: one that does not fit stays so whatever is added.
-use Rattle.float.proofs.Words.{_≡_, refl, sym, ap, _∙_, Bool, true, false, _&&_, and-assoc, and-true, true≢false, List, [], _∷_, _++_, map, ℕ, _+_}
+use Rattle.float.proofs.Words.{_≡_, sym, ap, _∙_, Bool, true, false, _&&_, and-assoc, and-true, true≢false, List, [], _∷_, _++_, map, ℕ, _+_}
 use Rattle.float.proofs.Words.{_≤_, _<_, _^_, arith, add-one, length, getD, take, take-suc, take-suc-set, set, ltb, lt-ltb, le-ltb, ltb-true}
+use mathlib.Core.Bool.{and-false}
 use mathlib.Core.List.{map-append}
 use Rattle.float.proofs.Choice.{either}
 use Rattle.float.proofs.Finite.{both-true}
@@ -92,13 +93,9 @@ records-of t totals s e h = rw e at h
 
 -- ---- a sum in front of the totals
 
-nothing : (b : Bool) → b && false ≡ false
-nothing true = refl
-nothing false = refl
-
 pub totals-past : (n : ℕ) (ns : List ℕ) → allFit ns ≡ false → allFit (n ∷ ns) ≡ false
 unfolding allFit
-totals-past n ns h = rw h (nothing (ltb n (2 ^ 64)))
+totals-past n ns h = rw h (and-false (ltb n (2 ^ 64)))
 
 pub first-past : (n : ℕ) (ns : List ℕ) → sumIn n .fits ≡ false → allFit (n ∷ ns) ≡ false
 unfolding allFit

@@ -1,6 +1,6 @@
 -- The counts are those of the whole records seen so far, and the bytes kept are those seen behind them: a file that is cut behind whole records has
 -- the sum of the tallies of its parts. So at the end they are the tally of all that was seen, whatever the lengths of the reads.
-use Rattle.float.proofs.Words.{_≡_, refl, sym, ap, _∙_, subst⁻¹, Bool, true, false, false≢true, List, [], _++_, append-nil, append-assoc, ℕ, _+_}
+use Rattle.float.proofs.Words.{_≡_, refl, sym, ap, _∙_, subst⁻¹, false, List, [], _++_, append-nil, append-assoc, ℕ, _+_}
 use Rattle.float.proofs.Words.{_*_, _≤_, _<_, arith, mul-add, eq-eqb, Format, length, take, drop, length-take-le, length-append}
 use Rattle.float.proofs.Words.{take-append-drop, div-mul-le-self, mul-comm}
 use lib.Seq.{take-add}
@@ -11,7 +11,7 @@ use Rattle.stdio.specs.Kept.{wholeOf, restOf}
 use Rattle.record.specs.Layout.{answerSize}
 use Rattle.counts.specs.Cells.{tallySize}
 use Rattle.counts.specs.Tally.{Tally, tallyOf, emptyTally, plusOf, allFit, withFile}
-use Rattle.counts.proofs.Sums.{part-fits}
+use Rattle.counts.proofs.Sums.{part-past}
 use Rattle.counts.proofs.Cut.{cut}
 use Rattle.counts.proofs.Files.{tally-length, no-tally}
 use Rattle.tally.specs.declared.decide.State.{State}
@@ -32,13 +32,8 @@ added f P done s m h j k =
 
 -- what has passed them stays so with more behind it
 passes : (f : Format) (done s : List ℕ) (m : ℕ) → length done ≡ answerSize f * m → allFit (tallyOf f done) ≡ false → allFit (tallyOf f (done ++ s)) ≡ false
-passes f done s m h n = go (allFit (tallyOf f (done ++ s))) refl
-  where
-    go : (t : Bool) → allFit (tallyOf f (done ++ s)) ≡ t → allFit (tallyOf f (done ++ s)) ≡ false
-    go true e =
-        let w : allFit (plusOf (tallyOf f done) (tallyOf f s)) ≡ true = ap allFit (sym (cut f done s m h)) ∙ e in
-        absurd (false≢true (sym n ∙ part-fits (tallyOf f done) (tallyOf f s) (tally-length f s ∙ sym (tally-length f done)) w))
-    go false e = e
+passes f done s m h n =
+    ap allFit (cut f done s m h) ∙ part-past (tallyOf f done) (tallyOf f s) (tally-length f s ∙ sym (tally-length f done)) n
 
 -- ---- between two rounds
 
