@@ -16,6 +16,7 @@ pub mod Zeros
 pub mod Units
 pub mod Rounding
 pub mod Correct
+pub mod Invalid
 pub mod Named
 pub mod Assembled
 pub mod Unique

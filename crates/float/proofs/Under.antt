@@ -1,7 +1,7 @@
 -- What is below a number, or not above it, is under each finite l that the number is under: infinities by cases, and finite floats compare as their keys do.
 use Rattle.float.proofs.Words.{_≡_, refl, sym, _∙_, Bool, true, false, not, _&&_, Bool·beq, cond, true≢false, false≢true, ℕ, zero, suc, _+_, _-_, _*_}
 use Rattle.float.proofs.Words.{_^_, arith, ltb, Float, nan, inf, fin, Format, binary32, binary64, ofBits, prec, emax, low, lt, sum, add, round, units}
-use Rattle.float.proofs.Words.{odd, isNan}
+use Rattle.float.proofs.Words.{odd, isNan, ℤ, pos}
 use Rattle.float.specs.Constants.{limitF}
 use Rattle.float.specs.Sign.{finite}
 use Rattle.float.proofs.Finite.{both-true}
@@ -57,29 +57,34 @@ finite-no-nan nan e = absurd (false≢true e)
 finite-no-nan (inf s) e = refl
 finite-no-nan (fin s m e) h = refl
 
-no-nan-of : (t : Bool) (x y : Float) → isNan x ≡ false → isNan y ≡ false → isNan (cond t x y) ≡ false
-no-nan-of true x y p q = p
-no-nan-of false x y p q = q
+of-cond : (P : Float → Type 0) (t : Bool) (x y : Float) → P x → P y → P (cond t x y)
+of-cond P true x y p q = p
+of-cond P false x y p q = q
 
-odd-no-nan : (d : ℕ) (s : Bool) (q k l : ℕ) → isNan (odd d s q k l) ≡ false
-unfolding odd isNan
-odd-no-nan d s zero k l = refl
-odd-no-nan d s (suc q) k l = refl
+-- what is rounded with a sign is a finite number with this sign, or the infinity with it
+module _ (P : Float → Type 0) (f : Format) (s : Bool) (i : P (inf s)) (h : (m : ℕ) (e : ℤ) → P (fin s m e)) where
+  of-odd : (d q k l : ℕ) → P (odd d s q k l)
+  unfolding odd
+  of-odd d zero k l = h 0 (pos 0)
+  of-odd d (suc q) k l = h _ _
 
-units-no-nan : (f : Format) (s : Bool) (q k : ℕ) → isNan (units f s q k) ≡ false
-unfolding units isNan
-units-no-nan f s q k =
-    no-nan-of (ltb (q * 2 ^ k) (2 ^ (low f + suc (emax f)))) (odd (suc (prec f)) s q k (low f)) (inf s)
-    (odd-no-nan (suc (prec f)) s q k (low f)) refl
+  of-units : (q k : ℕ) → P (units f s q k)
+  unfolding units
+  of-units q k = of-cond P (ltb (q * 2 ^ k) (2 ^ (low f + suc (emax f)))) (odd (suc (prec f)) s q k (low f)) (inf s) (of-odd (suc (prec f)) q k (low f)) i
 
-round-no-nan : (f : Format) (s : Bool) (n d : ℕ) → isNan (round f s n d) ≡ false
-unfolding round
-round-no-nan f s n d = units-no-nan f s _ _
+  pub of-round : (n d : ℕ) → P (round f s n d)
+  unfolding round
+  of-round n d = of-units _ _
+
+pub round-no-nan : (f : Format) (s : Bool) (n d : ℕ) → isNan (round f s n d) ≡ false
+unfolding isNan
+round-no-nan f s = of-round (λ (x : Float). isNan x ≡ false) f s refl (λ m e. refl)
 
 sum-no-nan : (f : Format) (s : Bool) (a : ℕ) (t : Bool) (b c : ℕ) → isNan (sum f s a t b c) ≡ false
 unfolding sum
 sum-no-nan f s a t b c =
-    no-nan-of (Bool·beq s t) _ _ (round-no-nan f s (a + b) c) (no-nan-of (ltb a b) _ _ (round-no-nan f t (b - a) c) (round-no-nan f (s && ltb b a) (a - b) c))
+    let P : Float → Type 0 = λ (x : Float). isNan x ≡ false in
+    of-cond P (Bool·beq s t) _ _ (round-no-nan f s (a + b) c) (of-cond P (ltb a b) _ _ (round-no-nan f t (b - a) c) (round-no-nan f (s && ltb b a) (a - b) c))
 
 pub add-no-nan : (f : Format) (x y : Float) → finite x ≡ true → finite y ≡ true → isNan (add f x y) ≡ false
 unfolding add finite
