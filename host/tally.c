@@ -90,7 +90,7 @@ struct places {
 static int is_foreign(struct head head)
 {
     int turning = head.kind == 2 || head.kind == 4;
-    if (head.code > 7 || head.code == 2)
+    if (head.code > 9 || head.code == 2 || head.code == 8)
         return 1;
     return head.code == 0 &&
            (head.kind < 1 || head.kind > 8 || head.mark > 1 || head.rotations > (turning ? 25 : 0));
@@ -98,9 +98,10 @@ static int is_foreign(struct head head)
 
 static struct places places_of(struct head head)
 {
-    static const uint8_t columns[8] = {ZANIKORY_TALLY_CODE_0, ZANIKORY_TALLY_CODE_1, 0,
-                                       ZANIKORY_TALLY_CODE_3, ZANIKORY_TALLY_CODE_4, ZANIKORY_TALLY_CODE_5,
-                                       ZANIKORY_TALLY_CODE_6, ZANIKORY_TALLY_CODE_7};
+    static const uint8_t columns[10] = {ZANIKORY_TALLY_CODE_0, ZANIKORY_TALLY_CODE_1, 0,
+                                        ZANIKORY_TALLY_CODE_3, ZANIKORY_TALLY_CODE_4, ZANIKORY_TALLY_CODE_5,
+                                        ZANIKORY_TALLY_CODE_6, ZANIKORY_TALLY_CODE_7, 0,
+                                        ZANIKORY_TALLY_CODE_9};
     size_t row = head.kind > 8 ? ZANIKORY_TALLY_OTHER_ROW : head.kind;
     struct places places = {1, {ZANIKORY_TALLY_FOREIGN_AT, 0, 0}};
     if (is_foreign(head))
@@ -185,14 +186,15 @@ static void record(struct tried *tried, struct head head)
 static int records(void)
 {
     static const uint8_t kinds[] = {0, 1, 2, 3, 4, 5, 6, 7, 8, 9, 255};
-    static const uint8_t codes[] = {0, 1, 2, 3, 4, 5, 6, 7, 8, 14, 255};
+    static const uint8_t codes[] = {0, 1, 2, 3, 4, 5, 6, 7, 8, 9, 10, 14, 255};
     static const uint8_t rotations[] = {0, 1, 24, 25, 26, 255}, marks[] = {0, 1, 2, 255};
     struct tried each = begin("0: one answer more, any byte in its head");
     struct tried all = begin("0: one answer more, bytes on both sides of what is known");
     for (unsigned byte = 0; byte < 256; byte++) {
         uint8_t b = (uint8_t)byte;
         const struct head heads[] = {{b, 0, 0, 1}, {b, 5, 0, 0}, {2, b, 0, 1}, {1, 0, b, 1}, {2, 0, b, 1},
-                                     {4, 0, b, 0}, {8, 6, b, 0}, {4, 0, 3, b}, {7, 7, 0, b}};
+                                     {4, 0, b, 0}, {8, 6, b, 0}, {6, 9, b, 0}, {4, 0, 3, b},
+                                     {7, 7, 0, b}};
         for (size_t i = 0; i < sizeof heads / sizeof heads[0]; i++)
             record(&each, heads[i]);
     }
@@ -285,7 +287,7 @@ static int records_near_the_end(void)
     struct tried fit = begin("0: answers up to 2^64 - 1, in each cell");
     struct tried pass = begin("14: answers up to 2^64, in each cell");
     for (uint8_t kind = 0; kind <= 9; kind++)
-        for (uint8_t code = 0; code <= 8; code++)
+        for (uint8_t code = 0; code <= 10; code++)
             for (uint8_t rotations = 0; rotations <= (code == 0 ? 26 : 0); rotations++)
                 for (uint8_t mark = 0; mark < 2; mark++) {
                     struct head head = {kind, code, rotations, mark};

@@ -6,9 +6,9 @@
    code 0 are settled; for kinds 2 and 4 how many made 0, 1, up to 25 rotations; the foreign records; and the
    bytes left over behind the last whole record.
 
-   A record is foreign, and counted nowhere else, if its code is not 0, 1 or 3 to 7, or if its code is 0 and
-   one of these holds: its kind is not 1 to 8; byte 7 is above 1; byte 6 is above 25, or above 0 for another
-   kind than 2 and 4. */
+   A record is foreign, and counted nowhere else, if its code is not 0, 1, 3 to 7 or 9, or if its code is 0
+   and one of these holds: its kind is not 1 to 8; byte 7 is above 1; byte 6 is above 25, or above 0 for
+   another kind than 2 and 4. */
 #ifndef ZANIKORY_TALLY_H
 #define ZANIKORY_TALLY_H
 
@@ -20,16 +20,16 @@ extern "C" {
 
 /* ---- the counts
 
-   A tally is an array of 135 counts of 64 bits:
+   A tally is an array of 144 counts of 64 bits:
 
-     0..81     nine rows of nine counts. Row 0 is of all kinds that are not 1 to 8, and the others are of
+     0..90     nine rows of ten counts. Row 0 is of all kinds that are not 1 to 8, and the others are of
                the kind with their number. A row has the records with each code, and then the answers with
                code 0 that are settled and that are not.
-     81..133   for each number of rotations the answers of kind 2 that made so many, and those of kind 4
-     133       foreign records
-     134       bytes left over */
+     90..142   for each number of rotations the answers of kind 2 that made so many, and those of kind 4
+     142       foreign records
+     143       bytes left over */
 
-#define ZANIKORY_TALLY_SIZE 135
+#define ZANIKORY_TALLY_SIZE 144
 
 /* A column of a row. */
 enum zanikory_tally_column {
@@ -40,28 +40,29 @@ enum zanikory_tally_column {
     ZANIKORY_TALLY_CODE_5 = 4,
     ZANIKORY_TALLY_CODE_6 = 5,
     ZANIKORY_TALLY_CODE_7 = 6,
-    ZANIKORY_TALLY_SETTLED = 7,
-    ZANIKORY_TALLY_UNSETTLED = 8
+    ZANIKORY_TALLY_CODE_9 = 7,
+    ZANIKORY_TALLY_SETTLED = 8,
+    ZANIKORY_TALLY_UNSETTLED = 9
 };
 
 #define ZANIKORY_TALLY_ROWS 9
-#define ZANIKORY_TALLY_COLUMNS 9
+#define ZANIKORY_TALLY_COLUMNS 10
 #define ZANIKORY_TALLY_OTHER_ROW 0
 #define ZANIKORY_TALLY_AT(row, column) (ZANIKORY_TALLY_COLUMNS * (row) + (column))
 
 #define ZANIKORY_TALLY_MOST_ROTATIONS 25
-#define ZANIKORY_TALLY_ROTATIONS_2_AT(rotations) (81 + 2 * (rotations)) /* of kind 2 */
-#define ZANIKORY_TALLY_ROTATIONS_4_AT(rotations) (82 + 2 * (rotations)) /* of kind 4 */
+#define ZANIKORY_TALLY_ROTATIONS_2_AT(rotations) (90 + 2 * (rotations)) /* of kind 2 */
+#define ZANIKORY_TALLY_ROTATIONS_4_AT(rotations) (91 + 2 * (rotations)) /* of kind 4 */
 
-#define ZANIKORY_TALLY_FOREIGN_AT 133
-#define ZANIKORY_TALLY_LEFT_OVER_AT 134
+#define ZANIKORY_TALLY_FOREIGN_AT 142
+#define ZANIKORY_TALLY_LEFT_OVER_AT 143
 
 /* ---- the calls
 
    counts are those of the tally that is changed, and n is how many there are. Each call gives a code:
      0    done
      1    answer or more has a wrong length: the counts are as they were
-     2    n is not 135: the counts are as they were, and this comes before 1
+     2    n is not 144: the counts are as they were, and this comes before 1
      14   a count would pass 64 bits: all counts are 0
 
    The caller keeps that no pointer is null, that each is valid for its length, 0 included, that counts and
@@ -87,7 +88,7 @@ uint8_t zanikory_tally_file(uint64_t *counts, size_t n, const uint8_t *answers, 
 /* The tally of a file, whatever the counts were. */
 uint8_t zanikory_tally_of(uint64_t *counts, size_t n, const uint8_t *answers, size_t answers_length);
 
-/* Another tally more, of 135 counts. */
+/* Another tally more, of 144 counts. */
 uint8_t zanikory_tally_add(uint64_t *counts, size_t n, const uint64_t *more, size_t more_length);
 
 #ifdef __cplusplus

@@ -56,10 +56,11 @@ fn put(worked: &Worked, out: &mut [u8; ANSWER_BYTES]) {
     }
 }
 
-/// The counts of a tally: nine of each row, then two for each number of rotations, the foreign records and
+/// The counts of a tally: ten of each row, then two for each number of rotations, the foreign records and
 /// the bytes left over.
 pub const COUNTS: usize = LEFT_AT + 1;
-const TURNS_AT: usize = 9 * ROWS;
+const COLUMNS: usize = 10;
+const TURNS_AT: usize = COLUMNS * ROWS;
 const FOREIGN_AT: usize = TURNS_AT + 2 * (MOST as usize + 1);
 const LEFT_AT: usize = FOREIGN_AT + 1;
 
@@ -87,17 +88,18 @@ fn count(counts: &mut [u64; COUNTS], answer: &[u8]) -> bool {
     let place = match code {
         0 | 1 => code,
         3..=7 => code - 1,
+        9 => 7,
         _ => return add(&mut counts[FOREIGN_AT], 1),
     };
     if code > 0 {
-        return add(&mut counts[9 * row + usize::from(place)], 1);
+        return add(&mut counts[COLUMNS * row + usize::from(place)], 1);
     }
     let turning = matches!(row, 2 | 4);
     if row == 0 || mark > 1 || turns > if turning { MOST as u8 } else { 0 } {
         return add(&mut counts[FOREIGN_AT], 1);
     }
     let turned = TURNS_AT + 2 * usize::from(turns) + usize::from(row == 4);
-    add(&mut counts[9 * row], 1)
-        && add(&mut counts[9 * row + 8 - usize::from(mark)], 1)
+    add(&mut counts[COLUMNS * row], 1)
+        && add(&mut counts[COLUMNS * row + 9 - usize::from(mark)], 1)
         && (!turning || add(&mut counts[turned], 1))
 }

@@ -9,11 +9,12 @@ pub const INPUT_NOT_FINITE: u64 = 5;
 pub const PIVOT: u64 = 6;
 pub const ANSWER_NOT_FINITE: u64 = 7;
 pub const OUTSIDE: u64 = 8;
+pub const NAN_PIVOT: u64 = 9;
 pub const COUNT_TOO_LARGE: u64 = 14;
 
 /// The codes that a record can have. 2, 8 and 14 are of calls alone: a program's answer has room, no kind names a row, and no record
 /// counts others.
-pub const OF_RECORDS: [u64; 7] = [
+pub const OF_RECORDS: [u64; 8] = [
     DONE,
     INPUT_LENGTH,
     KIND,
@@ -21,4 +22,5 @@ pub const OF_RECORDS: [u64; 7] = [
     INPUT_NOT_FINITE,
     PIVOT,
     ANSWER_NOT_FINITE,
+    NAN_PIVOT,
 ];

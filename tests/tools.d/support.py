@@ -38,7 +38,7 @@ ANSWERED = (EIGEN2, EIGEN3, SVD2, SVD3, CHOLESKY2, CHOLESKY3, SOLVE2, SOLVE3)
 UNSETTLED = answer(15, 2, count=25, mark=0, values=(1, 1, 1), left=IDENTITY)
 CUT = answer(0, 0, code=1)
 REFUSED = (CUT, answer(16, 9, code=3), answer(17, 1, code=4), answer(18, 2, code=5),
-           answer(19, 6, code=6, count=3), answer(20, 8, code=7))
+           answer(19, 6, code=6, count=3), answer(20, 8, code=7), answer(21, 8, code=9, count=3))
 
 
 class ToolTest(unittest.TestCase):

@@ -54,8 +54,8 @@ class Plot(ToolTest):
                          {'smallest': SVG + 'rect', 'middle': SVG + 'path', 'largest': SVG + 'circle'})
 
     def test_the_legend_counts(self):
-        words = self.words(self.picture(b''.join(ANSWERED + REFUSED) + UNSETTLED + spoilt(EIGEN2, 5, 9) + b'abc', status=1))
-        for line in ('2 tensors (eigen3, code 0)', '1 of them unsettled', '13 of other kinds or refused, not drawn',
+        words = self.words(self.picture(b''.join(ANSWERED + REFUSED) + UNSETTLED + spoilt(EIGEN2, 5, 8) + b'abc', status=1))
+        for line in ('2 tensors (eigen3, code 0)', '1 of them unsettled', '14 of other kinds or refused, not drawn',
                      '1 foreign record not drawn', '3 bytes left over at the end', "the recorder's own x, y, z",
                      'hemisphere z ≥ 0, seen from +z:', '+x', '+y', '−x', '−y', '+z'):
             self.assertIn(line, words)

@@ -52,7 +52,8 @@ class Text(ToolTest):
                      '17 eigen2 - - 4 a reserved byte or an unused number is not all zero bits',
                      '18 eigen3 - - 5 a used number of the request is NaN or infinite',
                      '19 cholesky3 - - 6 pivot 3 is <= 0',
-                     '20 solve3 - - 7 a number of the answer or of the worked matrix is NaN or infinite']
+                     '20 solve3 - - 7 a number of the answer or of the worked matrix is NaN or infinite',
+                     '21 solve3 - - 9 pivot 3 is NaN']
         self.assertEqual(heads, [line.split() for line in expected])
 
     def test_columns_stay_aligned(self):
@@ -104,14 +105,14 @@ class Csv(ToolTest):
 
     def test_heads(self):
         rows = self.rows(b''.join(ANSWERED + (UNSETTLED,) + REFUSED))
-        self.assertEqual([row['kind'] for row in rows], KINDS + ['eigen3', '', 'unknown 9', 'eigen2', 'eigen3', 'cholesky3', 'solve3'])
-        self.assertEqual([row['code'] for row in rows], ['0'] * 9 + ['1', '3', '4', '5', '6', '7'])
-        self.assertEqual([row['event'] for row in rows], [str(i) for i in range(7, 16)] + [''] + [str(i) for i in range(16, 21)])
-        self.assertEqual([row['offset'] for row in rows], [str(176 * i) for i in range(15)])
-        self.assertEqual([row['settled'] for row in rows], ['1'] * 8 + ['0'] + [''] * 6)
+        self.assertEqual([row['kind'] for row in rows], KINDS + ['eigen3', '', 'unknown 9', 'eigen2', 'eigen3', 'cholesky3', 'solve3', 'solve3'])
+        self.assertEqual([row['code'] for row in rows], ['0'] * 9 + ['1', '3', '4', '5', '6', '7', '9'])
+        self.assertEqual([row['event'] for row in rows], [str(i) for i in range(7, 16)] + [''] + [str(i) for i in range(16, 22)])
+        self.assertEqual([row['offset'] for row in rows], [str(176 * i) for i in range(16)])
+        self.assertEqual([row['settled'] for row in rows], ['1'] * 8 + ['0'] + [''] * 7)
         self.assertEqual([row['rotations'] for row in rows if row['rotations']], ['4', '3', '25'])
-        self.assertEqual([row['pivot'] for row in rows if row['pivot']], ['3'])
-        self.assertEqual(rows[13]['meaning'], 'pivot 3 is <= 0')
+        self.assertEqual([(row['code'], row['pivot'], row['meaning']) for row in rows if row['pivot']],
+                         [('6', '3', 'pivot 3 is <= 0'), ('9', '3', 'pivot 3 is NaN')])
 
     def test_numbers(self):
         self.assertEqual(self.filled(EIGEN3), {
@@ -133,9 +134,9 @@ class Csv(ToolTest):
         self.assertEqual([filled[f'axis_{i}_plunge'] for i in '123'], ['0.0', '90.0', '0.0'])
 
     def test_damage(self):
-        rows = self.rows(EIGEN2 + spoilt(EIGEN2, 5, 9) + b'abc', status=1)
+        rows = self.rows(EIGEN2 + spoilt(EIGEN2, 5, 8) + b'abc', status=1)
         self.assertEqual([(row['offset'], row['event'], row['meaning']) for row in rows[1:]], [
-            ('176', '', 'foreign: code 9 is none that an answer has'),
+            ('176', '', 'foreign: code 8 is none that an answer has'),
             ('352', '', 'left over: 3 bytes, and an answer has 176')])
 
 
@@ -157,9 +158,9 @@ class Json(ToolTest):
     def test_every_kind_and_code(self):
         objects = self.objects(b''.join(ANSWERED + REFUSED))
         self.assertEqual([o['kind'] for o in objects[:8]], KINDS)
-        self.assertEqual([o['code'] for o in objects], [0] * 8 + [1, 3, 4, 5, 6, 7])
+        self.assertEqual([o['code'] for o in objects], [0] * 8 + [1, 3, 4, 5, 6, 7, 9])
         self.assertEqual(objects[3]['V'], [[0, 0, 1], [0, 1, 0], [1, 0, 0]])
-        self.assertEqual(objects[12]['pivot'], 3)
+        self.assertEqual([(o['code'], o['pivot']) for o in objects if o['pivot'] is not None], [(6, 3), (9, 3)])
 
     def test_hex_and_frame(self):
         made = self.objects(EIGEN3, '--hex', FRAME)[0]
@@ -191,6 +192,7 @@ class Damage(ToolTest):
         self.foreign((
             (spoilt(EIGEN2, 5, 2), 'code 2 is none that an answer has'),
             (spoilt(EIGEN2, 5, 8), 'code 8 is none that an answer has'),
+            (spoilt(EIGEN2, 5, 10), 'code 10 is none that an answer has'),
             (spoilt(EIGEN2, 5, 255), 'code 255 is none that an answer has'),
             (spoilt(EIGEN2, 4, 0), 'code 0 is not given for kind 0'),
             (spoilt(EIGEN2, 4, 9), 'code 0 is not given for kind 9'),
@@ -201,12 +203,28 @@ class Damage(ToolTest):
             (spoilt(SOLVE3, 6, 1), 'the count of rotations is 1, and solve3 has at most 0'),
             (spoilt(EIGEN3, 7, 0), 'eigen3 is marked unsettled with 4 rotations'),
             (spoilt(SVD2, 7, 0), 'svd2 is marked unsettled with 0 rotations'),
-            (answer(1, 6, code=6, count=0), 'the refused pivot is 0, and cholesky3 has 1 to 3'),
-            (answer(1, 8, code=6, count=4), 'the refused pivot is 4, and solve3 has 1 to 3'),
-            (answer(1, 7, code=6, count=3), 'the refused pivot is 3, and solve2 has 1 to 2'),
-            (answer(1, 2, code=6, count=1), 'code 6 is not given for kind 2'),
-            (answer(1, 2, code=3), 'code 3 is not given for kind 2'),
-            (answer(1, 9, code=5), 'code 5 is not given for kind 9')))
+            (answer(1, 6, code=6, count=0), 'the refused pivot is 0, and with code 6 cholesky3 has 1 to 3'),
+            (answer(1, 8, code=6, count=4), 'the refused pivot is 4, and with code 6 solve3 has 1 to 3'),
+            (answer(1, 7, code=6, count=3), 'the refused pivot is 3, and with code 6 solve2 has 1 to 2'),
+            (answer(1, 6, code=9, count=0), 'the refused pivot is 0, and with code 9 cholesky3 has 3'),
+            (answer(1, 8, code=9, count=2), 'the refused pivot is 2, and with code 9 solve3 has 3'),
+            (answer(1, 8, code=9, count=4), 'the refused pivot is 4, and with code 9 solve3 has 3')))
+
+    def test_codes_of_each_kind(self):
+        """Each kind, and one that is none, with each code of a refusal and with every byte for the pivot."""
+        pivots = {6: {5: (1, 2), 6: (1, 2, 3), 7: (1, 2), 8: (1, 2, 3)}, 9: {6: (3,), 8: (3,)}}
+        kinds = {3: (9,), 4: range(1, 9), 5: range(1, 9), 6: range(5, 9), 7: (1, 2, 3, 4, 7, 8), 9: (6, 8)}
+        given = {(kind, code, pivot) for code in kinds for kind in kinds[code] for pivot in pivots.get(code, {}).get(kind, (0,))}
+        tried = [(kind, code, pivot) for kind in range(1, 10) for code in kinds for pivot in range(256)]
+        records = b''.join(answer(1, kind, code=code, count=pivot) for kind, code, pivot in tried)
+        shown = [json.loads(line) for line in self.shown(records, '--json', status=1).splitlines()]
+        self.assertEqual(len(shown), len(tried))
+        self.assertEqual({head for head, item in zip(tried, shown) if 'foreign' not in item}, given)
+        for (kind, code, pivot), item in zip(tried, shown):
+            if kind not in kinds[code]:
+                self.assertEqual(item['foreign'], f'code {code} is not given for kind {kind}')
+            elif 'foreign' not in item:
+                self.assertEqual((item['code'], item['pivot']), (code, pivot or None))
 
     def test_places_that_must_be_zero(self):
         places = [(EIGEN2, 24), (EIGEN2, 64), (EIGEN2, 104), (EIGEN3, 175), (SVD2, 64), (SVD2, 136), (CHOLESKY2, 8),

@@ -10,7 +10,7 @@ import unittest
 from support import KINDS, TOP, ToolTest
 from records.tallies import BadListing, read_tallies
 
-HEADING = ['kind', 'code 0', 'code 1', 'code 3', 'code 4', 'code 5', 'code 6', 'code 7', 'settled', 'unsettled']
+HEADING = ['kind', 'code 0', 'code 1', 'code 3', 'code 4', 'code 5', 'code 6', 'code 7', 'code 9', 'settled', 'unsettled']
 ROWS = ['1', '2', '3', '4', '5', '6', '7', '8', 'other']
 LARGEST = 18446744073709551615
 # the line of each part
@@ -22,7 +22,7 @@ def listing(cells=(), turns=(), foreign=0, left_over=0):
     cells, turns = dict(cells), dict(turns)
     table = [[row] + [cells.get((row, column), 0) for column in HEADING[1:]] for row in ROWS]
     total = [sum(column) for column in list(zip(*table))[1:]]
-    lines = [HEADING, *table, ['total', *total], ['records', sum(total[:7]) + foreign], ['foreign', foreign],
+    lines = [HEADING, *table, ['total', *total], ['records', sum(total[:8]) + foreign], ['foreign', foreign],
              ['left over', left_over], ['turns', 'kind 2', 'kind 4']]
     lines += [[n, turns.get((n, 2), 0), turns.get((n, 4), 0)] for n in range(26)]
     return '\n'.join('\t'.join(map(str, line)) for line in lines) + '\n'
@@ -35,10 +35,11 @@ def answered(row, settled, unsettled=0):
 EMPTY = listing()
 ONE = listing({**answered('1', 3), **answered('2', 12, 1), ('2', 'code 5'): 2, ('other', 'code 3'): 100}, {(9, 2): 12, (25, 2): 1},
               foreign=7, left_over=175)
-TWO = listing({**answered('2', 5), **answered('4', 40), ('8', 'code 6'): 1, ('other', 'code 1'): 1}, {(9, 2): 4, (10, 2): 1, (0, 4): 40},
-              foreign=1)
+TWO = listing({**answered('2', 5), **answered('4', 40), ('8', 'code 6'): 1, ('8', 'code 9'): 4, ('other', 'code 1'): 1},
+              {(9, 2): 4, (10, 2): 1, (0, 4): 40}, foreign=1)
 BOTH = listing({**answered('1', 3), **answered('2', 17, 1), **answered('4', 40), ('2', 'code 5'): 2, ('8', 'code 6'): 1,
-                ('other', 'code 3'): 100, ('other', 'code 1'): 1}, {(9, 2): 16, (10, 2): 1, (25, 2): 1, (0, 4): 40}, foreign=8, left_over=175)
+                ('8', 'code 9'): 4, ('other', 'code 3'): 100, ('other', 'code 1'): 1}, {(9, 2): 16, (10, 2): 1, (25, 2): 1, (0, 4): 40},
+               foreign=8, left_over=175)
 
 
 class TallyTest(ToolTest):
@@ -51,17 +52,17 @@ class TallyTest(ToolTest):
 class Text(TallyTest):
     def test_the_whole_table(self):
         self.assertEqual(self.show(ONE), (
-            'kind         code 0  code 1  code 3  code 4  code 5  code 6  code 7  settled  unsettled\n'
-            '1 eigen2          3       .       .       .       .       .       .        3          .\n'
-            '2 eigen3         13       .       .       .       2       .       .       12          1\n'
-            '3 svd2            .       .       .       .       .       .       .        .          .\n'
-            '4 svd3            .       .       .       .       .       .       .        .          .\n'
-            '5 cholesky2       .       .       .       .       .       .       .        .          .\n'
-            '6 cholesky3       .       .       .       .       .       .       .        .          .\n'
-            '7 solve2          .       .       .       .       .       .       .        .          .\n'
-            '8 solve3          .       .       .       .       .       .       .        .          .\n'
-            'other             .       .     100       .       .       .       .        .          .\n'
-            'total            16       .     100       .       2       .       .       15          1\n'
+            'kind         code 0  code 1  code 3  code 4  code 5  code 6  code 7  code 9  settled  unsettled\n'
+            '1 eigen2          3       .       .       .       .       .       .       .        3          .\n'
+            '2 eigen3         13       .       .       .       2       .       .       .       12          1\n'
+            '3 svd2            .       .       .       .       .       .       .       .        .          .\n'
+            '4 svd3            .       .       .       .       .       .       .       .        .          .\n'
+            '5 cholesky2       .       .       .       .       .       .       .       .        .          .\n'
+            '6 cholesky3       .       .       .       .       .       .       .       .        .          .\n'
+            '7 solve2          .       .       .       .       .       .       .       .        .          .\n'
+            '8 solve3          .       .       .       .       .       .       .       .        .          .\n'
+            'other             .       .     100       .       .       .       .       .        .          .\n'
+            'total            16       .     100       .       2       .       .       .       15          1\n'
             '\n'
             'code 3: the kind is not 1 to 8\n'
             'code 5: a used number of the request is NaN or infinite\n'
@@ -73,6 +74,11 @@ class Text(TallyTest):
             'rotations  2 eigen3  4 svd3\n'
             '9                12       .\n'
             '25                1       .\n'))
+
+    def test_the_codes_of_pivots_in_words(self):
+        lines = self.show(TWO).splitlines()
+        self.assertEqual(lines[8].split(), ['8', 'solve3', '.', '.', '.', '.', '.', '1', '.', '4', '.', '.'])
+        self.assertEqual(lines[12:15], ['code 1: the request has the wrong length', 'code 6: a pivot is <= 0', 'code 9: a pivot is NaN'])
 
     def test_nothing_counted(self):
         lines = self.show(EMPTY).splitlines()
@@ -122,6 +128,7 @@ class Adding(TallyTest):
                 ('kind 1, code 0', listing(answered('1', LARGEST)), listing(answered('1', 1))),
                 ('kind 2, code 0', listing(answered('2', LARGEST), {(3, 2): LARGEST}), listing(answered('2', 1), {(3, 2): 1})),
                 ('other, code 3', listing({('other', 'code 3'): LARGEST}), listing({('other', 'code 3'): 1})),
+                ('kind 6, code 9', listing({('6', 'code 9'): LARGEST}), listing({('6', 'code 9'): 1})),
                 # the number of all records stands first in the listing
                 ('records', listing(foreign=LARGEST), listing(foreign=1)),
                 ('left over', listing(left_over=LARGEST), listing(left_over=1))):
@@ -134,6 +141,7 @@ class Adding(TallyTest):
         half = 2 ** 63
         self.refused(listing({('1', 'code 4'): half}) + listing({('3', 'code 4'): half}), 'total, code 4')
         self.refused(listing({('1', 'code 4'): half}) + listing({('3', 'code 5'): half}), 'records')
+        self.refused(listing({('1', 'code 4'): half}) + listing({('6', 'code 9'): half}), 'records')
         self.refused(listing({('1', 'code 4'): half}) + listing(foreign=half), 'records')
 
 
@@ -141,7 +149,7 @@ class ForPrograms(TallyTest):
     def test_csv_has_every_number_once(self):
         rows = list(csv.DictReader(io.StringIO(self.show(ONE, '--csv'))))
         counts = {(row['kind'], row['what']): int(row['count']) for row in rows}
-        self.assertEqual((len(rows), len(counts)), (10 * 9 + 3 + 2 * 26,) * 2)
+        self.assertEqual((len(rows), len(counts)), (10 * 10 + 3 + 2 * 26,) * 2)
         filled = {**answered('1', 3), **answered('2', 12, 1), ('2', 'code 5'): 2, ('other', 'code 3'): 100, **answered('total', 15, 1),
                   ('total', 'code 5'): 2, ('total', 'code 3'): 100, ('', 'records'): 125, ('', 'foreign'): 7, ('', 'left over'): 175,
                   ('2', 'rotations 9'): 12, ('2', 'rotations 25'): 1}
@@ -154,10 +162,11 @@ class ForPrograms(TallyTest):
         self.assertEqual(list(made['kinds']), ROWS)
         self.assertEqual([made['kinds'][row]['name'] for row in ROWS], KINDS + [None])
         self.assertEqual(made['kinds']['2'], {
-            'name': 'eigen3', 'codes': {'0': 18, '1': 0, '3': 0, '4': 0, '5': 2, '6': 0, '7': 0}, 'settled': 17, 'unsettled': 1})
-        self.assertEqual(made['kinds']['other']['codes'], {'0': 0, '1': 1, '3': 100, '4': 0, '5': 0, '6': 0, '7': 0})
-        self.assertEqual(made['total'], {'codes': {'0': 61, '1': 1, '3': 100, '4': 0, '5': 2, '6': 1, '7': 0}, 'settled': 60, 'unsettled': 1})
-        self.assertEqual((made['records'], made['foreign'], made['left_over']), (173, 8, 175))
+            'name': 'eigen3', 'codes': {'0': 18, '1': 0, '3': 0, '4': 0, '5': 2, '6': 0, '7': 0, '9': 0}, 'settled': 17, 'unsettled': 1})
+        self.assertEqual(made['kinds']['8']['codes'], {'0': 0, '1': 0, '3': 0, '4': 0, '5': 0, '6': 1, '7': 0, '9': 4})
+        self.assertEqual(made['kinds']['other']['codes'], {'0': 0, '1': 1, '3': 100, '4': 0, '5': 0, '6': 0, '7': 0, '9': 0})
+        self.assertEqual(made['total'], {'codes': {'0': 61, '1': 1, '3': 100, '4': 0, '5': 2, '6': 1, '7': 0, '9': 4}, 'settled': 60, 'unsettled': 1})
+        self.assertEqual((made['records'], made['foreign'], made['left_over']), (177, 8, 175))
         self.assertEqual(made['rotations'], {'2': [0] * 9 + [16, 1] + [0] * 14 + [1], '4': [40] + [0] * 25})
 
     def test_json_keeps_every_digit(self):
@@ -195,8 +204,9 @@ class BadListings(TallyTest):
         self.refused('\udcff' * 10000, 1, 'the line is cut short')
 
     def test_headings(self):
-        columns = 'are: code 0, code 1, code 3, code 4, code 5, code 6, code 7, settled, unsettled'
-        for heading in ('kind', 'kind\tcode 0', '\t'.join(HEADING[:8] + HEADING[:7:-1]), '\t'.join(HEADING) + '\r', '\t'.join(HEADING + ['code 9'])):
+        columns = 'are: code 0, code 1, code 3, code 4, code 5, code 6, code 7, code 9, settled, unsettled'
+        for heading in ('kind', 'kind\tcode 0', '\t'.join(HEADING[:9] + HEADING[:8:-1]), '\t'.join(HEADING) + '\r', '\t'.join(HEADING + ['code 8']),
+                        '\t'.join(name for name in HEADING if name != 'code 9')):
             self.refused(self.changed(1, heading), 1, f"the columns behind 'kind' {columns}")
         self.refused(self.changed(TURNS, 'turns\tkind 4\tkind 2'), TURNS, "the columns behind 'turns' are: kind 2, kind 4")
 
@@ -213,14 +223,16 @@ class BadListings(TallyTest):
         for field in ('', '-1', '+1', '01', '1.0', '1e3', 'x', ' 1', '1 ', '1,000', '0x1', '١', '1\r', str(LARGEST + 1), '9' * 3000):
             reason = f'{field[:30]!r} is not a whole number from 0 to {LARGEST}'
             self.refused(self.changed(FOREIGN, f'foreign\t{field}'), FOREIGN, reason)
-        self.refused(self.changed(3, '2\t13\t0'), 3, "'2' has 9 numbers, and here are 2")
-        self.refused(self.changed(3, '2' + '\t0' * 10), 3, "'2' has 9 numbers, and here are 10")
+        self.refused(self.changed(3, '2\t13\t0'), 3, "'2' has 10 numbers, and here are 2")
+        self.refused(self.changed(3, '2' + '\t0' * 9), 3, "'2' has 10 numbers, and here are 9")
+        self.refused(self.changed(3, '2' + '\t0' * 11), 3, "'2' has 10 numbers, and here are 11")
         self.refused(self.changed(LEFT_OVER, 'left over'), LEFT_OVER, "'left over' has 1 numbers, and here are 0")
         self.refused(self.changed(LAST, '25\t1'), LAST, "'25' has 2 numbers, and here are 1")
 
     def test_numbers_that_do_not_add_up(self):
-        self.refused(self.changed(2, '1\t3\t0\t0\t0\t0\t0\t0\t2\t0'), 2, 'code 0 is 3, and settled and unsettled add up to 2')
-        self.refused(self.changed(TOTAL, 'total\t16\t0\t100\t0\t3\t0\t0\t15\t1'), TOTAL, 'the total of code 5 is 3, and the rows add up to 2')
+        self.refused(self.changed(2, '1\t3\t0\t0\t0\t0\t0\t0\t0\t2\t0'), 2, 'code 0 is 3, and settled and unsettled add up to 2')
+        self.refused(self.changed(TOTAL, 'total\t16\t0\t100\t0\t3\t0\t0\t0\t15\t1'), TOTAL, 'the total of code 5 is 3, and the rows add up to 2')
+        self.refused(self.changed(TOTAL, 'total\t16\t0\t100\t0\t2\t0\t0\t1\t15\t1'), TOTAL, 'the total of code 9 is 1, and the rows add up to 0')
         self.refused(self.changed(RECORDS, 'records\t124'), RECORDS, 'records is 124, and the totals of the codes and foreign add up to 125')
         self.refused(self.changed(FOREIGN, 'foreign\t8'), RECORDS, 'records is 125, and the totals of the codes and foreign add up to 126')
         self.refused(self.changed(LAST, '25\t2\t0'), LAST, 'code 0 of kind 2 is 13, and its rotations add up to 14')

@@ -3,8 +3,8 @@ import math
 import struct
 from typing import NamedTuple, Optional, Tuple
 
-from records.kinds import (ANSWERED, ANSWER_SIZE, BAD_PIVOT, BY_NUMBER, Kind, MEANINGS, MOST_ROTATIONS,
-                           UNKNOWN_KIND, WRONG_LENGTH)
+from records.kinds import (ANSWERED, ANSWER_SIZE, BAD_PIVOT, BY_NUMBER, Kind, MEANINGS, MOST_ROTATIONS, NOT_FINITE,
+                           PIVOT_FAULTS, UNKNOWN_KIND, WRONG_LENGTH)
 
 # event number, kind, code, count, mark, three values, nine numbers left and nine right
 LAYOUT = struct.Struct('<IBBBB21d')
@@ -33,7 +33,8 @@ class Answer(NamedTuple):
 
     @property
     def meaning(self):
-        return f'pivot {self.pivot} is <= 0' if self.code == BAD_PIVOT else MEANINGS[self.code]
+        fault = PIVOT_FAULTS.get(self.code)
+        return f'pivot {self.pivot} {fault}' if fault else MEANINGS[self.code]
 
 
 class Foreign(NamedTuple):
@@ -67,19 +68,36 @@ def nonzero(record, offset, first, end):
     return None
 
 
+def pivots_of(kind, code):
+    """The pivots that a kind can refuse with a code. Where the matrix is finite, the first two are never NaN."""
+    if kind.job not in ('cholesky', 'solve'):
+        return ()
+    return tuple(range(1 if code == BAD_PIVOT else 3, kind.size + 1))
+
+
+def is_given(kind, code):
+    """Whether a request of a kind can be refused with a code."""
+    if kind is None or code == UNKNOWN_KIND:
+        return kind is None and code == UNKNOWN_KIND
+    if code in PIVOT_FAULTS:
+        return bool(pivots_of(kind, code))
+    # a number of a factor that is NaN or infinite makes a pivot NaN or -infinity, and that is refused first
+    return code != NOT_FINITE or kind.job != 'cholesky'
+
+
 def refused_fault(record, offset):
     """A refused record keeps event, kind, code and the pivot's number."""
     kind, code, count = BY_NUMBER.get(record[4]), record[5], record[COUNT_AT]
     if code == WRONG_LENGTH:
         return nonzero(record, offset, 0, 5) or nonzero(record, offset, COUNT_AT, ANSWER_SIZE)
-    if (code == UNKNOWN_KIND) != (kind is None):
+    if not is_given(kind, code):
         return f'code {code} is not given for kind {record[4]}'
-    if code != BAD_PIVOT:
+    if code not in PIVOT_FAULTS:
         return nonzero(record, offset, COUNT_AT, ANSWER_SIZE)
-    if kind.job not in ('cholesky', 'solve'):
-        return f'code {code} is not given for kind {record[4]}'
-    if not 1 <= count <= kind.size:
-        return f'the refused pivot is {count}, and {kind.name} has 1 to {kind.size}'
+    pivots = pivots_of(kind, code)
+    if count not in pivots:
+        those = ' to '.join(str(k) for k in sorted({pivots[0], pivots[-1]}))
+        return f'the refused pivot is {count}, and with code {code} {kind.name} has {those}'
     return nonzero(record, offset, MARK_AT, ANSWER_SIZE)
 
 
@@ -131,7 +149,7 @@ def taken_apart(record, offset):
         offset=offset, event=None if code == WRONG_LENGTH else event, kind=kind, kind_byte=kind_byte, code=code,
         rotations=count if done and kind.counts_rotations else None,
         settled=bool(mark) if done else None,
-        pivot=count if code == BAD_PIVOT else None,
+        pivot=count if code in PIVOT_FAULTS else None,
         values=tuple(numbers[:values]), left=tuple(numbers[3:3 + left]), right=tuple(numbers[12:12 + right]))
 
 

@@ -39,17 +39,21 @@ KINDS = (
 BY_NUMBER = {kind.number: kind for kind in KINDS}
 BY_NAME = {kind.name: kind for kind in KINDS}
 
-ANSWERED, WRONG_LENGTH, UNKNOWN_KIND, BAD_PIVOT = 0, 1, 3, 6
+ANSWERED, WRONG_LENGTH, UNKNOWN_KIND, BAD_PIVOT, NOT_FINITE, NAN_PIVOT = 0, 1, 3, 6, 7, 9
 
-# Code 2 is of a call and leaves its record unwritten, so no file has it.
+# With these byte 6 has the number of the refused pivot.
+PIVOT_FAULTS = {BAD_PIVOT: 'is <= 0', NAN_PIVOT: 'is NaN'}
+
+# Codes 2, 8 and 14 are of calls alone, so no file has them.
 MEANINGS = {
     ANSWERED: 'answered',
     WRONG_LENGTH: 'the request has the wrong length',
     UNKNOWN_KIND: 'the kind is not 1 to 8',
     4: 'a reserved byte or an unused number is not all zero bits',
     5: 'a used number of the request is NaN or infinite',
-    BAD_PIVOT: 'a pivot is <= 0',
-    7: 'a number of the answer or of the worked matrix is NaN or infinite',
+    BAD_PIVOT: f'a pivot {PIVOT_FAULTS[BAD_PIVOT]}',
+    NOT_FINITE: 'a number of the answer or of the worked matrix is NaN or infinite',
+    NAN_PIVOT: f'a pivot {PIVOT_FAULTS[NAN_PIVOT]}',
 }
 
 REQUEST_SIZE = 104

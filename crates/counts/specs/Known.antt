@@ -19,7 +19,7 @@ headOf r = record { kind = getD r kindAt 0; code = getD r codeAt 0; turns = getD
 
 -- calls hand back others too, which stand in no file
 abbrev pub codes : List ℕ
-codes = 0 ∷ 1 ∷ 3 ∷ 4 ∷ 5 ∷ 6 ∷ 7 ∷ []
+codes = 0 ∷ 1 ∷ 3 ∷ 4 ∷ 5 ∷ 6 ∷ 7 ∷ 9 ∷ []
 
 -- settled, unsettled
 abbrev pub marks : List ℕ

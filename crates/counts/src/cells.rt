@@ -1,4 +1,4 @@
-// Where each count of a tally stands: nine counts for each row, which are its codes and its marks; then the rows that count rotations, once for
+// Where each count of a tally stands: ten counts for each row, which are its codes and its marks; then the rows that count rotations, once for
 // each number of them; then the foreign records, and the bytes left over.
 use crate::known::CODES;
 use crate::known::MARKS;

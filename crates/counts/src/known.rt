@@ -36,7 +36,7 @@ pub(crate) fn head_at(s: &[u8], at: usize) -> Head
 }
 
 // How many codes and marks are known, and the most rotations that a run makes.
-pub const CODES: usize = 7;
+pub const CODES: usize = 8;
 
 pub const MARKS: usize = 2;
 
@@ -54,6 +54,7 @@ pub(crate) fn code_place(code: u8) -> usize
         5 => 4,
         6 => 5,
         7 => 6,
+        9 => 7,
         _ => CODES,
     }
 }

@@ -41,6 +41,17 @@ digits-most (suc k) n =
     (λ l. rw (decimal-small k n l) (omega arith))
     (λ l. let m = digits-most k (n / 10) in rw (decimal-large k n l, length-append) (omega arith))
 
+-- a number below a power of ten has as many digits at most
+pub digits-below : (w k n : ℕ) → n < 10 ^ suc w → length (decimalIn k n) ≤ suc w
+unfolding decimalIn
+digits-below w zero n h = omega arith
+digits-below zero (suc k) n h = rw (decimal-small k n h) (omega arith)
+digits-below (suc w) (suc k) n h =
+    let b : n < 10 ^ suc w * 10 = rw pow-suc at h in
+    either n 10
+    (λ l. rw (decimal-small k n l) (omega arith))
+    (λ l. let m = digits-below w k (n / 10) (omega arith) in rw (decimal-large k n l, length-append) (omega arith))
+
 pub digits-more : (n : ℕ) → 10 ≤ n → n < 10 ^ mostDigits → length (decimalOf n) ≡ length (decimalOf (n / 10)) + 1
 digits-more n h b = rw (decimal-more n h b, length-append)
 

@@ -9,7 +9,7 @@ use Rattle.listing.specs.Text.{mostDigits, wordBytes, decimalIn, decimal
 use Rattle.listing.specs.Putting.{countsEnd, blockLine, blockOf}
 use Rattle.listing.specs.Page.{heading, turnsHeading, rowCounts, totalsOf, recordsIn, listingOf}
 use Rattle.listing.specs.Page.{listingMost}
-use Rattle.listing.proofs.Decimals.{digits-most}
+use Rattle.listing.proofs.Decimals.{digits-most, digits-below}
 use Rattle.listing.proofs.Stores.{line-length}
 use Rattle.listing.proofs.Blocks.{block-more}
 use Rattle.listing.proofs.Pieces.{kinds-block, turns-block, rows-length, sums-length, turns-length, listing-length}
@@ -27,15 +27,16 @@ counts-most (n ∷ ns) =
 pub line-most : (name ns : List ℕ) → length (countsLine name ns) ≤ length name + 21 * length ns + 1
 line-most name ns = omega (arith, line-length name ns, counts-most ns)
 
-pub block-most : (t : List ℕ) (first from width n : ℕ) → length (blockOf t first from width n) ≤ (21 + 21 * width) * n
+-- under numbers of two digits at most
+pub block-most : (t : List ℕ) (first from width n : ℕ) → first + n ≤ 100 → length (blockOf t first from width n) ≤ (3 + 21 * width) * n
 unfolding blockOf blockLine linesOf
-block-most t first from width zero = rw (mul-zero (21 + 21 * width)) (omega arith)
-block-most t first from width (suc n) =
+block-most t first from width zero h = rw (mul-zero (3 + 21 * width)) (omega arith)
+block-most t first from width (suc n) h =
     let ns = part (from + width * n) width t in
-    let d = digits-most mostDigits (first + n) in
+    let d = digits-below 1 mostDigits (first + n) (omega arith) in
     let l = line-most (decimalOf (first + n)) ns in
     let w = length-take width (drop (from + width * n) t) in
-    let r = block-most t first from width n in
+    let r = block-most t first from width n (omega arith) in
     rw (block-more t first from width n, length-append, mul-suc) (omega arith)
 
 -- ---- the whole
@@ -45,7 +46,7 @@ pub listing-fits : (t : List ℕ) → length (listingOf t) ≤ listingMost
 unfolding heading turnsHeading fieldsOf decimalIn
 listing-fits t =
     let rows = rows-length t in
-    let kind = rw (kinds-block t) at (block-most t 1 columns columns (length kinds)) in
+    let kind = rw (kinds-block t) at (block-most t 1 columns columns (length kinds) (omega arith)) in
     let row = length-take columns t in
     let other = line-most (wordBytes "other") (rowCounts t 0) in
     let total = line-most (wordBytes "total") (totalsOf t) in
@@ -54,5 +55,5 @@ listing-fits t =
     let foreign = line-most (wordBytes "foreign") (getD t foreignAt 0 ∷ []) in
     let left = line-most (wordBytes "left over") (getD t leftAt 0 ∷ []) in
     let turns = turns-length t in
-    let lines = rw (turns-block t) at (block-most t 0 turnsAt (length turning) (mostTurns + 1)) in
+    let lines = rw (turns-block t) at (block-most t 0 turnsAt (length turning) (mostTurns + 1) (omega arith)) in
     omega (arith, listing-length t)

@@ -51,7 +51,7 @@ fn put_rows(out: &mut [u8], at: usize, counts: &[u64], totals: &[u64]) -> usize
     let mut end = put_bytes(
         out,
         at,
-        b"kind\tcode 0\tcode 1\tcode 3\tcode 4\tcode 5\tcode 6\tcode 7\tsettled\tunsettled\n",
+        b"kind\tcode 0\tcode 1\tcode 3\tcode 4\tcode 5\tcode 6\tcode 7\tcode 9\tsettled\tunsettled\n",
     );
     end = put_block(out, end, counts, 1, COLUMNS, COLUMNS, ROWS - 1);
     end = put_line(out, end, b"other", &counts[..COLUMNS]);

@@ -17,8 +17,8 @@ put-block-requires c κs =
     let t = c .before .before .before .before .before .before .before .before .before .args .counts .now in
     (rw (kinds-block t) (omega (arith, rows-length t)), omega arith, omega arith)
 
-nine : tie.Need-slice-aggregate-put-line-2
-nine c =
+row-whole : tie.Need-slice-aggregate-put-line-2
+row-whole c =
     let t = c .before .before .before .before .before .before .before .before .before .before .before .before .before .before .before .args .counts .now in
     sym (length-take-le columns t (omega arith))
 
@@ -49,5 +49,5 @@ returns c =
 
 pub put-rows-spec : {M : Type 1} → statement M
 put-rows-spec = tie.close (tie.spec
-    (λ c. search needs) put-bytes-requires (λ c. search needs) put-block-requires (λ c. search needs) nine put-line-requires (λ c. search needs)
+    (λ c. search needs) put-bytes-requires (λ c. search needs) put-block-requires (λ c. search needs) row-whole put-line-requires (λ c. search needs)
     put-line-requires-2 (λ c. search needs) returns)
