@@ -1,5 +1,5 @@
 -- The kernels owe what every kernel does: the exact code tells which codes there are, and each way ends in the answer, a refusal or stopped steps.
-use Rattle.float.proofs.Words.{_≡_, refl, sym, _∙_, Bool, true, false, true≢false, List, _++_, _⊎_, inl, inr, ℕ, arith, length, Float, Format, eq-eqb}
+use Rattle.float.proofs.Words.{_≡_, refl, sym, _∙_, Bool, true, false, true≢false, List, _++_, _⊎_, inl, inr, ⊎-elim, ℕ, arith, length, Float, Format, eq-eqb}
 use Rattle.float.specs.Choice.{pick}
 use Rattle.float.specs.Exactly.{Exactly}
 use Rattle.float.specs.Judged.{judgedCall}
@@ -12,21 +12,26 @@ use Rattle.matrix.specs.Owed.{Part, AllFull, Owed}
 use Rattle.cholesky.specs.Factor.{FactorAnswer, ifWhole, refusedFactor, factorOf, steps2Of, factor2Of, steps3Of, factor3Of}
 use Rattle.cholesky.specs.Solve.{SolvedAnswer, refusedSolved, withSolution, factorAndSolveOf, solution2Of, factorAndSolve2Of, solution3Of}
 use Rattle.cholesky.specs.Solve.{factorAndSolve3Of}
-use Rattle.cholesky.specs.Pivots.{oneAtMostZero, Stops}
+use Rattle.cholesky.specs.Pivots.{oneAtMostZero, oneNan, Stopped, Stops}
 use Rattle.cholesky.specs.Owed.{leftFactor, factorParts, solvedParts}
-use Rattle.cholesky.proofs.Stops.{steps2-stops, steps3-stops, zero-or-six}
+use Rattle.cholesky.proofs.Stops.{steps2-stops, steps3-stops, zero-or-stopped}
 use Rattle.cholesky.proofs.Codes.{call-over, same-code}
 
--- ---- what is said by the three tests of the code
+-- ---- what is said by the four tests of the code
 
 abbrev Told : Bool → ℕ → Type 0
-Told u k = ((k ≡ 0) ⊎ ((k ≡ 5) ⊎ ((k ≡ 6) ⊎ (k ≡ 7)))) × Exactly (k ≡ 5) (u ≡ false)
+Told u k = ((k ≡ 0) ⊎ ((k ≡ 5) ⊎ ((k ≡ 6) ⊎ ((k ≡ 7) ⊎ (k ≡ 9))))) × Exactly (k ≡ 5) (u ≡ false)
 
-told : (u t m : Bool) → Told u (pick u (pick t 6 (pick m 0 7)) 5)
-told false t m = (inr (inl refl), ((λ _. refl), (λ _. refl)))
-told true true m = (inr (inr (inl refl)), ((λ e. absurd (omega arith)), (λ e. absurd (true≢false e))))
-told true false true = (inl refl, ((λ e. absurd (omega arith)), (λ e. absurd (true≢false e))))
-told true false false = (inr (inr (inr refl)), ((λ e. absurd (omega arith)), (λ e. absurd (true≢false e))))
+told : (u t n m : Bool) → Told u (pick u (pick t 6 (pick n 9 (pick m 0 7))) 5)
+told false t n m = (inr (inl refl), ((λ _. refl), (λ _. refl)))
+told true true n m = (inr (inr (inl refl)), ((λ e. absurd (omega arith)), (λ e. absurd (true≢false e))))
+told true false true m = (inr (inr (inr (inr refl))), ((λ e. absurd (omega arith)), (λ e. absurd (true≢false e))))
+told true false false true = (inl refl, ((λ e. absurd (omega arith)), (λ e. absurd (true≢false e))))
+told true false false false = (inr (inr (inr (inl refl))), ((λ e. absurd (omega arith)), (λ e. absurd (true≢false e))))
+
+-- steps that stopped are what is left of a factor
+stopped-left : (l : List Float) (r : FactorAnswer) → Stopped (r .code) → r ≡ leftFactor l r (r .code)
+stopped-left l r = ⊎-elim (λ (e : r .code ≡ 6). rw e) (λ (e : r .code ≡ 9). rw e)
 
 -- ---- a call that answers q by the steps r, and is judged by the numbers xs that they made; left is what a refused answer must be
 
@@ -40,7 +45,8 @@ module _ {f : Format} {l : List Float} {s : ℕ} {pivots : List Float} {r : Fact
       → (code q ≡ 0 → allFinite xs ≡ true → AllFull (parts q))
       → Owed code (left answer) parts used answer
   owed-over same five seven stopped full =
-      let tests = rw (sym (call-over known code refuse own used xs q same)) at (told (allFinite used) (oneAtMostZero f pivots) (allFinite xs)) in
+      let all = told (allFinite used) (oneAtMostZero f pivots) (oneNan pivots) (allFinite xs) in
+      let tests = rw (sym (call-over known code refuse own used xs q same)) at all in
       record {
         known = tests .0;
         five = tests .1;
@@ -59,7 +65,7 @@ module _ {f : Format} {l : List Float} {pivots : List Float} {r : FactorAnswer} 
   factor-owed : Owed (λ (q : FactorAnswer). q .code) (leftFactor l r) (factorParts n) a (factorOf l a r)
   factor-owed =
       owed-over known (λ (q : FactorAnswer). q .code) (refusedFactor l) (λ k. refl) a (r .factor) r (λ _. leftFactor l r) (factorParts n) refl refl refl
-      (λ h. rw (eq-eqb (r .code) 6 (zero-or-six known h)))
+      (λ h. stopped-left l r (zero-or-stopped known h))
       (λ _ e. (known .full sized, e, tt))
 
   solved-owed : (b x : List Float) → length x ≡ n

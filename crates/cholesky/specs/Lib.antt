@@ -3,3 +3,4 @@ pub mod Factor
 pub mod Solve
 pub mod Pivots
 pub mod Owed
+pub mod NanPivot

@@ -41,7 +41,7 @@ solve2Of f l b x = onFirst 2 (judgedSolution f 2 (solution2Of f) l) b x
 unfoldable pub solve3Of : Format → List Float → List Float → List Float → Answer (List Float)
 solve3Of f l b x = onFirst 3 (judgedSolution f 3 (solution3Of f) l) b x
 
--- ---- factor and solve in one: 5, 6 and 7 in that order, and all numbers +0 on refusal but the pivot's
+-- ---- factor and solve in one: 5, then 6 or 9, then 7, and all numbers +0 on refusal but the pivot's
 
 pub record SolvedAnswer : Type 0 where
   pub code : ℕ
@@ -61,7 +61,7 @@ ofSolved2 r = record { code = r .code; pivot = r .pivot; factor = r .factor .«d
 abbrev pub ofSolved3 : Solved3 → SolvedAnswer
 ofSolved3 r = record { code = r .code; pivot = r .pivot; factor = r .factor .«data»; solution = r .solution }
 
--- of size n; with 6 the pivot's number, and else 0
+-- of size n; with 6 and 9 the pivot's number, and else 0
 abbrev pub refusedSolved : Format → ℕ → ℕ → ℕ → SolvedAnswer
 refusedSolved f n pivot code = record { code = code; pivot = pivot; factor = zeros f (triangular n); solution = zeros f n }
 

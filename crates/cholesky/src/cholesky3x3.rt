@@ -2,6 +2,7 @@
 use crate::pivot::Pivot;
 use crate::pivot::pivot_step;
 use crate::pivot::refusal_of;
+use float::bits::canonical;
 use float::sign::all_finite;
 use float::sign::both_finite;
 use float::width::Real;
@@ -22,7 +23,7 @@ ghost use Rattle.cholesky.specs.Pivot.{pivotAnswer};
 ghost use Rattle.cholesky.specs.Factor.{factor3, ofFactor3, stopped, plain, steps3Of, judgedFactor, factor3Of};
 ghost use Rattle.cholesky.specs.Solve.{solution3Of, judgedSolution, solve3Of, solved3, refusedSolved, judgedSolved, factorAndSolve3Of};
 
-// A factor, whole with code 0. With code 6 the pivot is the number of the refused one, and the writes before it stand.
+// A factor, whole with code 0. With codes 6 and 9 the pivot is the number of the refused one, and the writes before it stand.
 pub struct Factor3 {
     pub code: u8,
     pub pivot: u8,
@@ -59,7 +60,8 @@ fn whole(l: Sym3) -> Factor3
     }
 }
 
-// The steps, unjudged. What is not written is the old factor's.
+// The steps, unjudged. What is not written is the old factor's. If the third pivot is NaN, so is l32, which is among the early writes: it is written with the
+// bits of the one NaN.
 fn steps(l: Sym3, a: Sym3) -> Factor3
     ensures { λ r. ⌜ r ≡ factor3 (steps3Of F (l .«data») (a .«data»)) ⌝ }
 {
@@ -86,7 +88,7 @@ fn steps(l: Sym3, a: Sym3) -> Factor3
         return stopped(
             p3,
             Sym3 {
-                data: [l11, l21, l22, l31, l32, o[5]],
+                data: [l11, l21, l22, l31, canonical(l32), o[5]],
             },
         );
     };
@@ -114,7 +116,7 @@ fn judge_factor(l: Sym3, r: Factor3) -> Factor3
     }
 }
 
-// The factor of a, over the old factor l: on refusal 6 the early writes stand, on 5 and 7 all of l does.
+// The factor of a, over the old factor l: on refusals 6 and 9 the early writes stand, on 5 and 7 all of l does.
 pub fn cholesky_3x3_explicit_factor(l: Sym3, a: Sym3) -> Factor3
     ensures { λ r. ⌜ r ≡ factor3 (factor3Of F (l .«data») (a .«data»)) ⌝ }
 {

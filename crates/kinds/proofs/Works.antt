@@ -7,6 +7,7 @@ use Rattle.float.proofs.Finite.{both-true, append-passes}
 use Rattle.matrix.specs.Places.{zeros}
 use Rattle.matrix.proofs.Owed.{not-five}
 use Rattle.cholesky.specs.Factor.{FactorAnswer}
+use Rattle.cholesky.specs.Pivots.{Stopped}
 use Rattle.cholesky.proofs.Rows.{factor2-unstopped, factor3-unstopped, solved2-unstopped, solved3-unstopped}
 use Rattle.cholesky.proofs.Owed.{factor2-owed, factor3-owed, solved2-owed, solved3-owed}
 use Rattle.eigen.proofs.Answered as eigen
@@ -79,9 +80,9 @@ work-clear f a =
 -- ---- byte 6 is 0, but for a pivot's number and for the rotations of a kind that counts them
 
 abbrev pub Uncounted : Bool → Worked → Type 0
-Uncounted counts w = (w .code ≡ 6 → ⊥) → ((w .code ≡ 0) × (counts ≡ true) → ⊥) → w .count ≡ 0
+Uncounted counts w = (Stopped (w .code) → ⊥) → ((w .code ≡ 0) × (counts ≡ true) → ⊥) → w .count ≡ 0
 
-factor-uncounted : (f : Format) (s : ℕ) (r : FactorAnswer) → ((r .code ≡ 6 → ⊥) → r .pivot ≡ 0) → Uncounted false (fromFactor f s r)
+factor-uncounted : (f : Format) (s : ℕ) (r : FactorAnswer) → ((Stopped (r .code) → ⊥) → r .pivot ≡ 0) → Uncounted false (fromFactor f s r)
 unfolding fromFactor
 factor-uncounted f s r h = by-eqb (Uncounted false) (r .code) 0 _ _ (λ _ _ _. refl) (λ _ n _. h n)
 

@@ -26,7 +26,7 @@ module _ {A : Type 0} (code : A → ℕ) (refuse : ℕ → A) (own : (k : ℕ) �
         full = (λ _. full e h);
       })
       (λ e h. record {
-        known = inr (inr (inr seven));
+        known = inr (inr (inr (inl seven)));
         five = ((λ k. absurd (omega arith)), (λ k. absurd (true≢false (sym e ∙ k))));
         clear = (λ _. ap refuse (sym seven));
         full = (λ k. absurd (omega arith));
@@ -44,7 +44,8 @@ pub by-owed : {A : Type 0} {code : A → ℕ} {refuse : ℕ → A} {parts : A �
 by-owed o P full refused =
     ⊎-elim (λ z. full (o .full z))
     (⊎-elim (λ five. subst⁻¹ P (o .clear (λ z. omega arith)) refused)
-    (⊎-elim (λ six. subst⁻¹ P (o .clear (λ z. omega arith)) refused) (λ seven. subst⁻¹ P (o .clear (λ z. omega arith)) refused)))
+    (⊎-elim (λ six. subst⁻¹ P (o .clear (λ z. omega arith)) refused)
+    (⊎-elim (λ seven. subst⁻¹ P (o .clear (λ z. omega arith)) refused) (λ nine. subst⁻¹ P (o .clear (λ z. omega arith)) refused))))
     (o .known)
 
 -- where the used numbers are finite its code is not 5

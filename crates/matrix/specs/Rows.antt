@@ -5,7 +5,7 @@ use mathlib.Core.List.{List, [], _∷_}
 use mathlib.Core.Logic.{_⊎_}
 use Prim.Native.Nat.{ℕ, _≤_, _<_}
 use lib.ListN.{length}
-use lib.Ieee.{Float, Format, le}
+use lib.Ieee.{Float, Format, le, isNan}
 use Rattle.float.specs.Constants.{zeroF}
 use Rattle.float.specs.Sign.{finite}
 use Rattle.matrix.specs.Places.{at}
@@ -43,6 +43,10 @@ NotFinite xs = ((i : ℕ) → i < length xs → finite (at xs i) ≡ true) → �
 abbrev pub AtMostZero : Format → List Float → Type 0
 AtMostZero f xs = ((i : ℕ) → i < length xs → le (at xs i) (zeroF f) ≡ false) → ⊥
 
+-- a number is NaN
+abbrev pub OneNan : List Float → Type 0
+OneNan xs = ((i : ℕ) → i < length xs → isNan (at xs i) ≡ false) → ⊥
+
 -- ---- the rows of a kernel, over the numbers that it uses and those that it makes
 
 abbrev pub kernelRows : List Float → List Float → List Row
@@ -50,4 +54,4 @@ kernelRows used made = on 5 (NotFinite used) ∷ on 7 (NotFinite made) ∷ []
 
 -- of one that stops at a pivot
 abbrev pub pivotRows : Format → List Float → List Float → List Float → List Row
-pivotRows f used pivots made = on 5 (NotFinite used) ∷ on 6 (AtMostZero f pivots) ∷ on 7 (NotFinite made) ∷ []
+pivotRows f used pivots made = on 5 (NotFinite used) ∷ on 6 (AtMostZero f pivots) ∷ on 9 (OneNan pivots) ∷ on 7 (NotFinite made) ∷ []

@@ -27,5 +27,8 @@ pub const ANSWER_NOT_FINITE: u8 = 7;
 // A row or a column not below the size.
 pub const OUTSIDE: u8 = 8;
 
+// A pivot is NaN.
+pub const NAN_PIVOT: u8 = 9;
+
 // A count passes 64 bits.
 pub const COUNT_TOO_LARGE: u8 = 14;

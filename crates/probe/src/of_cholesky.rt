@@ -88,7 +88,8 @@ fn factor_and_solve3(words: [u64; 40]) -> [u64; 64] {
 fn of_root(p: Pivot) -> u64 {
     match p {
         Pivot::Root(x) => to_bits(x),
-        Pivot::Refused(_) => 0,
+        Pivot::AtMostZero(_) => 0,
+        Pivot::NotANumber(_) => 0,
     }
 }
 

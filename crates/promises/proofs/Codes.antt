@@ -6,7 +6,7 @@ use Rattle.float.specs.Choice.{pick}
 use Rattle.float.specs.Sign.{allFinite}
 use Rattle.matrix.specs.Rows.{on, Gives, WrongLength, NotFinite}
 use Rattle.matrix.proofs.Rows.{Decides, first-row, by-length}
-use Rattle.cholesky.specs.Pivots.{oneAtMostZero}
+use Rattle.cholesky.specs.Pivots.{pivotCode}
 use Rattle.cholesky.proofs.Rows.{later-rows}
 use Rattle.kinds.specs.Table.{kindNumbered, knownKind}
 use Rattle.kinds.specs.Work.{refusedKind, usedFinite, workOf}
@@ -41,7 +41,7 @@ module _ (f : Format) (s a : List ℕ) where
   zero = reservedZero s && unusedZero f (kindNumbered (kindOf s)) s
 
   abbrev later : ℕ
-  later = pick (oneAtMostZero f (pivotsIn f s)) 6 (pick (allFinite (madeIn f s)) 0 7)
+  later = pivotCode f (pivotsIn f s) (pick (allFinite (madeIn f s)) 0 7)
 
   later-code : knownKind (kindOf s) ≡ true → usedFinite (askedOf f s) ≡ true → workOf f (askedOf f s) .code ≡ later
   later-code = rw (pivots-in f s, made-in f s) (kind-code f (askedOf f s))

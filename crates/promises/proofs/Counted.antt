@@ -10,7 +10,8 @@ use Rattle.float.specs.Width.{F}
 use Rattle.float.specs.Choice.{pick}
 use Rattle.float.specs.Sign.{allFinite}
 use Rattle.float.proofs.Choice.{chosen, so-or-not, by-test, by-eqb, whether}
-use Rattle.cholesky.specs.Pivots.{oneAtMostZero}
+use Rattle.cholesky.specs.Pivots.{oneAtMostZero, oneNan, Stopped}
+use Rattle.cholesky.proofs.Stops.{unstopped}
 use Rattle.eigen.specs.Eigen3x3.{eigenOf}
 use Rattle.eigen.proofs.Counted as eigen
 use Rattle.svd.specs.Svd3x3.{svdOf}
@@ -74,7 +75,7 @@ work-turned f a =
 work-unturned : (f : Format) (a : Asked) → kindNumbered (a .kind) .counts ≡ false → workOf f a .code ≡ 0 → Made 0 (workOf f a)
 work-unturned f a q c =
     let mark = work-marked f a c q in
-    let count = work-uncounted f a (λ e. omega (arith, c)) (λ e. true≢false (sym (e .1) ∙ q)) in
+    let count = work-uncounted f a (λ e. unstopped 0 refl (subst Stopped c e)) (λ e. true≢false (sym (e .1) ∙ q)) in
     (rw mark refl, omega (arith, count))
 
 work-made : (f : Format) (a : Asked) → workOf f a .code ≡ 0 → Made (mostTurnsOf (kindNumbered (a .kind))) (workOf f a)
@@ -93,7 +94,8 @@ module _ (f : Format) (s : List ℕ) where
       (chosen InCodes (not (knownKind (kindOf s))) 3 _ refl
       (chosen InCodes (not (reservedZero s && unusedZero f (kindNumbered (kindOf s)) s)) 4 _ refl
       (chosen InCodes (not (usedFinite (askedOf f s))) 5 _ refl
-      (chosen InCodes (oneAtMostZero f (pivotsIn f s)) 6 _ refl (chosen InCodes (allFinite (madeIn f s)) 0 7 refl refl)))))
+      (chosen InCodes (oneAtMostZero f (pivotsIn f s)) 6 _ refl
+      (chosen InCodes (oneNan (pivotsIn f s)) 9 _ refl (chosen InCodes (allFinite (madeIn f s)) 0 7 refl refl))))))
 
   judged-kind : judgedOf f s .code ≡ 0 → knownKind (kindOf s) ≡ true
   judged-kind c =

@@ -1,5 +1,5 @@
 -- The definitions give every row's answer: by computation.
-use Rattle.float.proofs.Words.{_≡_, refl, map, length, add, sub, mul, div, lt, le, eq, ofBits, toBits}
+use Rattle.float.proofs.Words.{_≡_, refl, map, length, add, sub, mul, div, lt, le, eq, isNan, ofBits, toBits}
 use Rattle.float.specs.Judged.{judged}
 use Rattle.float.specs.Root.{rootOf}
 use Rattle.float.specs.Sign.{magnitudeOf, signBitOf, signumOf, finite, allFinite}
@@ -27,9 +27,9 @@ pub examples : map (λ (r : Row). answerTo (r .asked)) table ≡ map (λ (r : Ro
 unfolding rootOf magnitudeOf signBitOf signumOf finite allFinite judged pivotOf steps2Of steps3Of factor2Of factor3Of factorAndSolve2Of tangentOf rotationOf
     largestOf ordered runFrom run axesOf solved2 end2Of eigen2Of settledOf nextMatrix nextVectors stepOf runOf rankedOf endOf eigenOf hypotOf polarBy polarOf
     twoSidedOf sidesOf signedColumn orderOf order2Of svd2.factors2Of svd2.end2Of svd2.svd2Of svd3.settledOf svd3.stepOf svd3.runOf svd3.factorsOf svd3.endOf
-    svd3.svdOf fromFactor answeredBy wordOf bytesOf numberBytesOf allZero formOf judgedOf recordOf recordStepOf add sub mul div lt le eq ofBits toBits
+    svd3.svdOf fromFactor answeredBy wordOf bytesOf numberBytesOf allZero formOf judgedOf recordOf recordStepOf add sub mul div lt le eq isNan ofBits toBits
 examples = refl
 
--- P1 to P14, of which P13 has two rows, and the whole example
-pub all-rows : length table ≡ 16
+-- P1 to P14, of which P13 has two rows, two of a NaN pivot, and the whole example
+pub all-rows : length table ≡ 18
 all-rows = refl

@@ -1,11 +1,11 @@
--- A kind's code over finite numbers: 6 where a pivot is at most zero, else 7 where a number of the answer is not finite, else 0.
+-- A kind's code over finite numbers: 6 where a pivot is at most zero, else 9 where one is NaN, else 7 where a number of the answer is not finite, else 0.
 -- It is the kernel's own exact code, of which 5 is left out.
 use Rattle.float.proofs.Words.{_≡_, _∙_, Bool, true, _++_, ℕ, Format}
 use Rattle.float.specs.Choice.{pick}
 use Rattle.float.specs.Sign.{allFinite}
 use Rattle.float.proofs.Finite.{append-passes}
 use Rattle.matrix.specs.Places.{zeros}
-use Rattle.cholesky.specs.Pivots.{oneAtMostZero}
+use Rattle.cholesky.specs.Pivots.{one, pivotCode}
 use Rattle.cholesky.proofs.Codes.{factor2-code, factor3-code, solved2-code, solved3-code}
 use Rattle.eigen.proofs.Owed.{eigen2-code, eigen3-code}
 use Rattle.svd.proofs.Owed.{svd2-code, svd3-code}
@@ -25,10 +25,10 @@ left-out u e h = e ∙ (rw h)
 module _ (f : Format) (a : Asked) where
   -- the code by the pivots and the numbers made
   abbrev pub laterCode : Kernel → ℕ
-  laterCode k = pick (oneAtMostZero f (pivotsOf f k a)) 6 (pick (allFinite (numbersOf f k a)) 0 7)
+  laterCode k = pivotCode f (pivotsOf f k a) (pick (allFinite (numbersOf f k a)) 0 7)
 
   pub kind-code : knownKind (a .kind) ≡ true → usedFinite a ≡ true → workOf f a .code ≡ laterCode (kindNumbered (a .kind) .kernel)
-  unfolding answeredBy oneAtMostZero
+  unfolding answeredBy one
   kind-code known finite =
       let nine = a .nine in
       let three = a .three in

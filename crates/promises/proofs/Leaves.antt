@@ -1,5 +1,5 @@
 -- What is left is the slice as it was, the answer to a request of the wrong size, or the answer to a request: each is looked at byte by byte.
-use Rattle.float.proofs.Words.{_≡_, refl, sym, ap, _∙_, not, _&&_, List, [], _∷_, _++_, append-assoc, ℕ, _≤_, arith, eqb, length, getD, take, drop}
+use Rattle.float.proofs.Words.{_≡_, refl, sym, ap, _∙_, subst, not, _&&_, List, [], _∷_, _++_, append-assoc, ℕ, _≤_, arith, eqb, length, getD, take, drop}
 use Rattle.float.proofs.Words.{replicate, length-append, take-append-drop, length-take-le, take-suc, take-at, drop-cons, getD-drop, Format}
 use contract.Lifetimes.{Lfts}
 use Rattle.float.specs.Width.{F}
@@ -16,7 +16,8 @@ use Rattle.record.specs.Request.{kindOf, askedOf, reservedZero, unusedZero, for
 use Rattle.record.specs.Answer.{recordOf, Step, recordStepOf}
 use Rattle.record.proofs.Answers.{with-room, wrong-size, no-room, answer-size, head-byte, code-in-place, refused-unmarked, refused-clear}
 use Rattle.record.proofs.answer.zanikory_answer_record.Reads as answer-record
-use Rattle.cholesky.specs.Pivots.{oneAtMostZero, refusedPivot}
+use Rattle.cholesky.specs.Pivots.{oneAtMostZero, oneNan, refusedPivot, Stopped}
+use Rattle.cholesky.proofs.Stops.{unstopped, by-stopped}
 use Rattle.promises.specs.Conditions.{pivotsIn, madeIn}
 use Rattle.promises.specs.Leaves.{Not, Turned, Leaves}
 use Rattle.promises.specs.Scope.{answerLength}
@@ -49,7 +50,8 @@ module _ (f : Format) (s : List ℕ) where
       (chosen PastSizes (not (reservedZero s && unusedZero f (kindNumbered (kindOf s)) s)) 4 _ ((λ e. omega arith), (λ e. omega arith))
       (chosen PastSizes (not (usedFinite (askedOf f s))) 5 _ ((λ e. omega arith), (λ e. omega arith))
       (chosen PastSizes (oneAtMostZero f (pivotsIn f s)) 6 _ ((λ e. omega arith), (λ e. omega arith))
-      (chosen PastSizes (allFinite (madeIn f s)) 0 7 ((λ e. omega arith), (λ e. omega arith)) ((λ e. omega arith), (λ e. omega arith)))))))
+      (chosen PastSizes (oneNan (pivotsIn f s)) 9 _ ((λ e. omega arith), (λ e. omega arith))
+      (chosen PastSizes (allFinite (madeIn f s)) 0 7 ((λ e. omega arith), (λ e. omega arith)) ((λ e. omega arith), (λ e. omega arith))))))))
 
   judged-uncounted : Uncounted (kindNumbered (kindOf s) .counts) (judgedOf f s)
   unfolding judgedOf
@@ -82,8 +84,8 @@ module _ (f : Format) (s a : List ℕ) (room : length a ≡ answerSize f) where
 
   -- what holds of the heads of both answers holds of all that is left
   headed : (event : Not 1 code → take codeAt left ≡ take codeAt s) (unread : code ≡ 1 → take codeAt left ≡ replicate codeAt 0) → Not 2 code
-      → (pivot : code ≡ 6 → getD left countAt 0 ≡ refusedPivot f 1 (pivotsIn f s))
-      → (Not 6 code → ((code ≡ 0) × Turned (kindOf s) → ⊥) → getD left countAt 0 ≡ 0)
+      → (pivot : Stopped code → getD left countAt 0 ≡ refusedPivot f 1 (pivotsIn f s))
+      → ((Stopped code → ⊥) → ((code ≡ 0) × Turned (kindOf s) → ⊥) → getD left countAt 0 ≡ 0)
       → (settled : code ≡ 0 → (Turned (kindOf s) → ⊥) → getD left markAt 0 ≡ 1)
       → Leaves f s a code left
   headed event unread n pivot uncounted settled = record {
@@ -112,8 +114,8 @@ answered f s a room size =
     headed f s a room (λ _. ap (λ (t : Step). take codeAt (t .answer)) e ∙ record-event f s (judgedOf f s) size)
     (λ k. absurd (judged-past-sizes f s .0 (sym same ∙ k)))
     (λ k. judged-past-sizes f s .1 (sym same ∙ k))
-    (λ k. count ∙ pivot-given f s (sym same ∙ k))
-    (λ k c. count ∙ judged-uncounted f s (λ q. k (same ∙ q)) (λ q. c (same ∙ q .0, counts-turned (kindOf s) (q .1))))
+    (λ k. count ∙ pivot-given f s (subst Stopped same k))
+    (λ k c. count ∙ judged-uncounted f s (λ q. k (subst Stopped (sym same) q)) (λ q. c (same ∙ q .0, counts-turned (kindOf s) (q .1))))
     (λ k n. mark ∙ judged-marked f s (sym same ∙ k) n)
 
 unread : (f : Format) (s a : List ℕ) → length a ≡ answerSize f → (length s ≡ requestSize f → ⊥)
@@ -123,7 +125,7 @@ unread f s a room size =
     let e = wrong-size f s a room size in
     let c = ap (λ (t : Step). t .code) e in
     headed f s a room (λ n. absurd (n c)) (λ _. ap (λ (t : Step). take codeAt (t .answer)) e) (λ k. absurd (omega (arith, c)))
-    (λ k. absurd (omega (arith, c))) (λ _ _. ap (λ (t : Step). getD (t .answer) countAt 0) e) (λ k. absurd (omega (arith, c)))
+    (λ k. absurd (unstopped 1 refl (subst Stopped c k))) (λ _ _. ap (λ (t : Step). getD (t .answer) countAt 0) e) (λ k. absurd (omega (arith, c)))
 
 untouched : (f : Format) (s a : List ℕ) → (length a ≡ answerSize f → ⊥) → Leaves f s a (recordStepOf f s a .code) (recordStepOf f s a .answer)
 untouched f s a n =
@@ -135,7 +137,7 @@ untouched f s a n =
       coded = (λ k. absurd (k c));
       event = (λ k. absurd (k c));
       unread = (λ k. absurd (omega (arith, c)));
-      pivot = (λ k. absurd (omega (arith, c)));
+      pivot = (λ k. absurd (unstopped 2 refl (subst Stopped c k)));
       uncounted = (λ k. absurd (k c));
       settled = (λ k. absurd (omega (arith, c)));
       unmarked = (λ k. absurd (k c));
@@ -160,7 +162,7 @@ one-refusal f s a c l m x y n =
     whether c 2 (λ e. x .untouched e ∙ sym (y .untouched e))
     (λ k.
     let event : take 5 l ≡ take 5 m = whether c 1 (λ e. x .unread e ∙ sym (y .unread e)) (λ o. x .event k o ∙ sym (y .event k o)) in
-    let count : getD l 6 0 ≡ getD m 6 0 = whether c 6 (λ e. x .pivot e ∙ sym (y .pivot e))
+    let count : getD l 6 0 ≡ getD m 6 0 = by-stopped c (λ e. x .pivot e ∙ sym (y .pivot e))
     (λ o. x .uncounted k o (λ q. n (q .0)) ∙ sym (y .uncounted k o (λ q. n (q .0)))) in
     let enough : 8 ≤ answerLength f = rw (answer-length f) (omega arith) in
     head-of l (omega (arith, x .size k))

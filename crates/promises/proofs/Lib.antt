@@ -10,4 +10,5 @@ pub mod Wiring
 pub mod Vouched
 pub mod Pivots
 pub mod Leaves
+pub mod NanPivots
 pub mod Counted

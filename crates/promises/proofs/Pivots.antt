@@ -1,11 +1,12 @@
--- With code 6 an answer has the number of the first pivot that is at most zero: the steps stop there, and their number is handed on.
-use Rattle.float.proofs.Words.{_≡_, refl, sym, _∙_, Bool, true, false, _&&_, List, ℕ, arith, Format}
+-- With codes 6 and 9 an answer has the number of the first pivot that has no root: the steps stop there, and their number is handed on.
+use Rattle.float.proofs.Words.{_≡_, refl, subst, Bool, true, false, _&&_, List, ℕ, arith, Format}
 use Rattle.float.specs.Choice.{pick}
 use Rattle.float.specs.Sign.{allFinite}
 use Rattle.float.proofs.Choice.{by-test, by-eqb}
 use Rattle.matrix.specs.Places.{zeros}
 use Rattle.cholesky.specs.Factor.{FactorAnswer}
-use Rattle.cholesky.specs.Pivots.{oneAtMostZero, refusedPivot}
+use Rattle.cholesky.specs.Pivots.{one, refusedPivot, Stopped}
+use Rattle.cholesky.proofs.Stops.{unstopped}
 use Rattle.cholesky.proofs.Codes.{factor2-pivot, factor3-pivot, solved2-pivot, solved3-pivot}
 use Rattle.kinds.specs.Table.{kindNumbered, knownKind}
 use Rattle.kinds.specs.Work.{firstOf, refusedKind, fromFactor, usedFinite, answeredBy, workOf}
@@ -20,32 +21,34 @@ use Rattle.promises.specs.Conditions.{pivotsOf, numbersOf, pivotsIn}
 use Rattle.promises.proofs.Scope.{pivots-in}
 use Rattle.promises.proofs.Kernels.{laterCode, kind-code}
 
--- with 6 a record of a factor has the factor's number
-factor-hands : (f : Format) (s pivot : ℕ) (r : FactorAnswer) → (r .code ≡ 6 → r .pivot ≡ pivot) → fromFactor f s r .code ≡ 6 → fromFactor f s r .count ≡ pivot
+-- with 6 and 9 a record of a factor has the factor's number
+factor-hands : (f : Format) (s pivot : ℕ) (r : FactorAnswer) → (Stopped (r .code) → r .pivot ≡ pivot)
+    → Stopped (fromFactor f s r .code) → fromFactor f s r .count ≡ pivot
 unfolding fromFactor
 factor-hands f s pivot r h c =
-    by-eqb (λ (w : Worked). w .code ≡ 6 → w .count ≡ pivot) (r .code) 0 _ _ (λ _ c. absurd (omega arith)) (λ _ _. h (sym (factor-code f s r) ∙ c)) c
+    by-eqb (λ (w : Worked). Stopped (w .code) → w .count ≡ pivot) (r .code) 0 _ _
+    (λ _ c. absurd (unstopped 0 refl c)) (λ _ _. h (subst Stopped (factor-code f s r) c)) c
 
 -- ---- the kinds
 
-not-six : (t : Bool) → pick {A = ℕ} t 0 7 ≡ 6 → ⊥
-not-six true e = omega arith
-not-six false e = omega arith
+without-pivots : (t : Bool) → Stopped (pick t 0 7) → ⊥
+without-pivots true = unstopped 0 refl
+without-pivots false = unstopped 7 refl
 
 module _ (f : Format) (a : Asked) where
-  -- a kernel without pivots makes no 6
+  -- a kernel without pivots makes no 6 and no 9
   abbrev Hands : Kind → Type 0
-  Hands k = answeredBy f (k .kernel) a .code ≡ laterCode f a (k .kernel) → answeredBy f (k .kernel) a .code ≡ 6
+  Hands k = answeredBy f (k .kernel) a .code ≡ laterCode f a (k .kernel) → Stopped (answeredBy f (k .kernel) a .code)
       → answeredBy f (k .kernel) a .count ≡ refusedPivot f 1 (pivotsOf f (k .kernel) a)
 
   work-hands : (n : ℕ) → Hands (kindNumbered n)
-  unfolding answeredBy oneAtMostZero
+  unfolding answeredBy one
   work-hands =
-      each-kind Hands (λ _ c. absurd (omega arith))
-      (λ e c. absurd (not-six (allFinite (numbersOf f Eigen2x2 a)) (sym e ∙ c)))
-      (λ e c. absurd (not-six (allFinite (numbersOf f Eigen3x3 a)) (sym e ∙ c)))
-      (λ e c. absurd (not-six (allFinite (numbersOf f Svd2x2 a)) (sym e ∙ c)))
-      (λ e c. absurd (not-six (allFinite (numbersOf f Svd3x3 a)) (sym e ∙ c)))
+      each-kind Hands (λ _ c. absurd (unstopped 3 refl c))
+      (λ e c. absurd (without-pivots (allFinite (numbersOf f Eigen2x2 a)) (subst Stopped e c)))
+      (λ e c. absurd (without-pivots (allFinite (numbersOf f Eigen3x3 a)) (subst Stopped e c)))
+      (λ e c. absurd (without-pivots (allFinite (numbersOf f Svd2x2 a)) (subst Stopped e c)))
+      (λ e c. absurd (without-pivots (allFinite (numbersOf f Svd3x3 a)) (subst Stopped e c)))
       (λ _ c. factor-hands f 3 _ _ (factor2-pivot f (zeros f 3) (firstOf 3 (a .nine))) c)
       (λ _ c. factor-hands f 6 _ _ (factor3-pivot f (zeros f 6) (firstOf 6 (a .nine))) c)
       (λ _. solved2-pivot f (firstOf 3 (a .nine)) (firstOf 2 (a .three)))
@@ -53,25 +56,25 @@ module _ (f : Format) (a : Asked) where
 
 -- ---- the record
 
-known-form : (k z : Bool) → pick {A = ℕ} k (pick z 0 4) 3 ≡ 0 → k ≡ true
+pub known-form : (k z : Bool) → pick {A = ℕ} k (pick z 0 4) 3 ≡ 0 → k ≡ true
 known-form true z e = refl
 known-form false z e = absurd (omega arith)
 
-form-not-six : (k z : Bool) → pick {A = ℕ} k (pick z 0 4) 3 ≡ 6 → ⊥
-form-not-six true true e = omega arith
-form-not-six true false e = omega arith
-form-not-six false z e = omega arith
+form-unstopped : (k z : Bool) → Stopped (pick k (pick z 0 4) 3) → ⊥
+form-unstopped true true = unstopped 0 refl
+form-unstopped true false = unstopped 4 refl
+form-unstopped false z = unstopped 3 refl
 
-pub pivot-given : (f : Format) (s : List ℕ) → judgedOf f s .code ≡ 6 → judgedOf f s .count ≡ refusedPivot f 1 (pivotsIn f s)
+pub pivot-given : (f : Format) (s : List ℕ) → Stopped (judgedOf f s .code) → judgedOf f s .count ≡ refusedPivot f 1 (pivotsIn f s)
 unfolding judgedOf formOf
 pivot-given f s =
     let a = askedOf f s in
     let kind = kindNumbered (kindOf s) in
     let zero = reservedZero s && unusedZero f kind s in
-    let P : Worked → Type 0 = λ (w : Worked). w .code ≡ 6 → w .count ≡ refusedPivot f 1 (pivotsOf f (kind .kernel) a) in
+    let P : Worked → Type 0 = λ (w : Worked). Stopped (w .code) → w .count ≡ refusedPivot f 1 (pivotsOf f (kind .kernel) a) in
     rw (pivots-in f s)
     (by-eqb P (formOf f s) 0 (pick (usedFinite a) (workOf f a) (refusedKind f 5 0)) (refusedKind f (formOf f s) 0)
     (λ e. by-test P (usedFinite a) (workOf f a) (refusedKind f 5 0)
     (λ u. work-hands f a (kindOf s) (kind-code f a (known-form (knownKind (kindOf s)) zero e) u))
-    (λ _ c. absurd (omega arith)))
-    (λ _ c. absurd (form-not-six (knownKind (kindOf s)) zero c)))
+    (λ _ c. absurd (unstopped 5 refl c)))
+    (λ _ c. absurd (form-unstopped (knownKind (kindOf s)) zero c)))

@@ -1,6 +1,6 @@
 -- What a code tells, in the scope's words, of any number that the rows give: a row that said less would not be enough. Each follows by going down the rows.
 use Rattle.float.proofs.Words.{_≡_, refl, sym, _∙_, Bool, true, false, true≢false, false≢true, List, _⊎_, ⊎-elim, ℕ, _≤_, _<_, arith, length, getD, drop, Float}
-use Rattle.float.proofs.Words.{Format, le}
+use Rattle.float.proofs.Words.{Format, le, isNan}
 use Rattle.float.specs.Constants.{zeroF}
 use Rattle.float.specs.Sign.{finite}
 use Rattle.float.proofs.Choice.{not-below, whether}
@@ -38,8 +38,11 @@ module _ (f : Format) (s a : List ℕ) (c : ℕ) (g : Gives (rows f s a) c) wher
   abbrev pub AllFinite : List Float → Type 0
   AllFinite xs = (i : ℕ) → i < length xs → finite (at xs i) ≡ true
 
-  abbrev pub AllAbove : List Float → Type 0
-  AllAbove xs = (i : ℕ) → i < length xs → le (at xs i) (zeroF f) ≡ false
+  abbrev pub NoneAtMostZero : List Float → Type 0
+  NoneAtMostZero xs = (i : ℕ) → i < length xs → le (at xs i) (zeroF f) ≡ false
+
+  abbrev pub NoneNan : List Float → Type 0
+  NoneNan xs = (i : ℕ) → i < length xs → isNan (at xs i) ≡ false
 
   past-sizes : Sizes → Gives (drop 2 (rows f s a)) c
   past-sizes z = passed-row (passed-row g (λ w. w (z .0))) (λ w. w (z .1))
@@ -53,8 +56,11 @@ module _ (f : Format) (s a : List ℕ) (c : ℕ) (g : Gives (rows f s a) c) wher
   past-used : Sizes → Listed → Zeros → AllFinite (usedIn f s) → Gives (drop 5 (rows f s a)) c
   past-used z k u n = passed-row (past-zeros z k u) (λ w. w n)
 
-  past-pivots : Sizes → Listed → Zeros → AllFinite (usedIn f s) → AllAbove (pivotsIn f s) → Gives (drop 6 (rows f s a)) c
-  past-pivots z k u n p = passed-row (past-used z k u n) (λ w. w p)
+  past-low : Sizes → Listed → Zeros → AllFinite (usedIn f s) → NoneAtMostZero (pivotsIn f s) → Gives (drop 6 (rows f s a)) c
+  past-low z k u n p = passed-row (past-used z k u n) (λ w. w p)
+
+  past-pivots : Sizes → Listed → Zeros → AllFinite (usedIn f s) → NoneAtMostZero (pivotsIn f s) → NoneNan (pivotsIn f s) → Gives (drop 7 (rows f s a)) c
+  past-pivots z k u n p m = passed-row (past-low z k u n p) (λ w. w m)
 
   pub two-told : (length a ≡ answerLength f → ⊥) → c ≡ 2
   two-told h = taken-row g h
@@ -74,12 +80,17 @@ module _ (f : Format) (s a : List ℕ) (c : ℕ) (g : Gives (rows f s a) c) wher
   pub six-told : Sizes → Listed → Zeros → AllFinite (usedIn f s) → (i : ℕ) → i < length (pivotsIn f s) → le (at (pivotsIn f s) i) (zeroF f) ≡ true → c ≡ 6
   six-told z k u n i l h = taken-row (past-used z k u n) (λ w. false≢true (sym (w i l) ∙ h))
 
-  pub seven-told : Sizes → Listed → Zeros → AllFinite (usedIn f s) → AllAbove (pivotsIn f s)
+  pub nine-told : Sizes → Listed → Zeros → AllFinite (usedIn f s) → NoneAtMostZero (pivotsIn f s)
+      → (i : ℕ) → i < length (pivotsIn f s) → isNan (at (pivotsIn f s) i) ≡ true → c ≡ 9
+  nine-told z k u n p i l h = taken-row (past-low z k u n p) (λ w. false≢true (sym (w i l) ∙ h))
+
+  pub seven-told : Sizes → Listed → Zeros → AllFinite (usedIn f s) → NoneAtMostZero (pivotsIn f s) → NoneNan (pivotsIn f s)
       → (i : ℕ) → i < length (madeIn f s) → finite (at (madeIn f s) i) ≡ false → c ≡ 7
-  seven-told z k u n p i l h = taken-row (past-pivots z k u n p) (λ w. true≢false (sym (w i l) ∙ h))
+  seven-told z k u n p m i l h = taken-row (past-pivots z k u n p m) (λ w. true≢false (sym (w i l) ∙ h))
 
   -- none of the rest: the sizes and the kind are right, what is to be zero is zero, and every number, given or made, is finite
-  pub zero-told : c ≡ 0 → Sizes × Listed × Zeros × AllFinite (usedIn f s) × AllAbove (pivotsIn f s) × AllFinite (madeIn f s)
+  pub zero-told : c ≡ 0
+      → Sizes × Listed × Zeros × AllFinite (usedIn f s) × NoneAtMostZero (pivotsIn f s) × NoneNan (pivotsIn f s) × AllFinite (madeIn f s)
   zero-told e =
       let r2 = not-given g (λ q. omega (arith, e)) in
       let r1 = not-given (r2 .1) (λ q. omega (arith, e)) in
@@ -87,12 +98,14 @@ module _ (f : Format) (s a : List ℕ) (c : ℕ) (g : Gives (rows f s a) c) wher
       let r4 = not-given (r3 .1) (λ q. omega (arith, e)) in
       let r5 = not-given (r4 .1) (λ q. omega (arith, e)) in
       let r6 = not-given (r5 .1) (λ q. omega (arith, e)) in
-      let r7 = not-given (r6 .1) (λ q. omega (arith, e)) in (
+      let r9 = not-given (r6 .1) (λ q. omega (arith, e)) in
+      let r7 = not-given (r9 .1) (λ q. omega (arith, e)) in (
         (same-number _ _ (r2 .0), same-number _ _ (r1 .0)),
         kind (r3 .0),
         (λ i u. same-number _ _ (λ k. r4 .0 (λ w. k (w i u)))),
         (λ i l. so _ (λ k. r5 .0 (λ w. k (w i l)))),
         (λ i l. not-so _ (λ k. r6 .0 (λ w. k (w i l)))),
+        (λ i l. not-so _ (λ k. r9 .0 (λ w. k (w i l)))),
         (λ i l. so _ (λ k. r7 .0 (λ w. k (w i l)))),
       )
     where

@@ -7,7 +7,7 @@ use Prim.Native.Nat.{ℕ, _+_, _*_, _≤_, _<_}
 use lib.ListN.{getD}
 use lib.Ieee.{Float, Format}
 use Rattle.matrix.specs.Places.{zeros}
-use Rattle.matrix.specs.Rows.{Row, on, WrongLength, NotFinite, AtMostZero}
+use Rattle.matrix.specs.Rows.{Row, on, WrongLength, NotFinite, AtMostZero, OneNan}
 use Rattle.cholesky.specs.Factor.{steps2Of, steps3Of}
 use Rattle.cholesky.specs.Pivots.{pivots2Of, pivots3Of}
 use Rattle.cholesky.specs.Solve.{solution2Of, solution3Of}
@@ -44,7 +44,8 @@ NotZero f s = ((i : ℕ) → Unused f (kindIn s) i → getD s i 0 ≡ 0) → ⊥
 abbrev pub usedIn : Format → List ℕ → List Float
 usedIn f s = numbersIn f 8 (usedNine (kindIn s)) s ++ numbersIn f (threeBegin f) (usedThree (kindIn s)) s
 
--- ---- 6: the pivots of each kernel. One counts only if those before it are above zero; if one of them is not, that is a 6 already.
+-- ---- 6 and 9: the pivots of each kernel. One counts only if those before it are above zero; if one of them is not, that is a 6 or a 9 already. After a NaN
+-- all are NaN, so that no 6 hides a 9.
 
 abbrev pub pivotsOf : Format → Kernel → Asked → List Float
 pivotsOf f Eigen2x2 a = []
@@ -98,6 +99,8 @@ rows f request answer =
     ∷ on 5 (NotFinite (usedIn f request))
     -- a pivot is at most zero
     ∷ on 6 (AtMostZero f (pivotsIn f request))
+    -- a pivot is NaN
+    ∷ on 9 (OneNan (pivotsIn f request))
     -- a number of the answer, the worked matrix included, is NaN or infinite
     ∷ on 7 (NotFinite (madeIn f request))
     ∷ []

@@ -1,4 +1,5 @@
--- The scope's examples P1 to P14 and its whole example as rows of one table: what is asked, and all that is answered. Definitions only.
+-- The scope's examples P1 to P14 and its whole example, and a third pivot that is NaN, as rows of one table: what is asked, and all that is answered.
+-- Definitions only.
 -- A number is its bit pattern. Zeros that fill up the places of a record are left out at the end of a list.
 use mathlib.Core.List.{List, [], _∷_, _++_, map}
 use Prim.Native.Nat.{ℕ, _+_, _-_, _*_, _^_}
@@ -77,9 +78,9 @@ good rotations values left right = numbers 0 rotations 1 (filled 3 values) (fill
 abbrev pub bad : ℕ → ℕ → Shown
 bad code pivot = numbers code pivot 0 (filled 3 []) (filled 9 []) (filled 9 [])
 
--- a factor that stopped, and what it wrote before the old numbers
-abbrev pub early : ℕ → List ℕ → Shown
-early pivot left = numbers 6 pivot 0 [] left []
+-- a factor that stopped with a code, and what it wrote before the old numbers
+abbrev pub early : ℕ → ℕ → List ℕ → Shown
+early code pivot left = numbers code pivot 0 [] left []
 
 -- ---- numbers
 
@@ -111,6 +112,9 @@ largest = 0x7FEFFFFFFFFFFFFF
 -- 2^k for k of the normal numbers, as 1023 + k
 abbrev pub power : ℕ → ℕ
 power biased = biased * 2 ^ 52
+
+abbrev pub nanPivot : List ℕ
+nanPivot = 1 ∷ 0 ∷ one ∷ power (1023 + 1023) ∷ 0 ∷ one ∷ []
 
 -- ---- numbers as bytes
 
@@ -163,9 +167,12 @@ table =
     (good 0 (0x3FF4000000000000 ∷ 0x3FF8000000000000 ∷ []) (two ∷ one ∷ two ∷ []) [])
     -- P13, the record, and what its kernel wrote
     ∷ row (kind 5 (one ∷ one ∷ one ∷ []) []) (bad 6 2)
-    ∷ row (factor2 (one ∷ one ∷ one ∷ [])) (early 2 (one ∷ one ∷ old 1))
+    ∷ row (factor2 (one ∷ one ∷ one ∷ [])) (early 6 2 (one ∷ one ∷ old 1))
     -- P14
-    ∷ row (factor3 (one ∷ 0 ∷ one ∷ one ∷ 0 ∷ one ∷ [])) (early 3 (one ∷ 0 ∷ one ∷ one ∷ 0 ∷ old 1))
+    ∷ row (factor3 (one ∷ 0 ∷ one ∷ one ∷ 0 ∷ one ∷ [])) (early 6 3 (one ∷ 0 ∷ one ∷ one ∷ 0 ∷ old 1))
+    -- a NaN pivot: 2^-1074, 0, 1, 2^1023, 0, 1, the record, and what its kernel wrote: L31 is infinite, and L32 the one NaN
+    ∷ row (kind 6 nanPivot []) (bad 9 3)
+    ∷ row (factor3 nanPivot) (early 9 3 (power (1023 - 537) ∷ 0 ∷ one ∷ 0x7FF0000000000000 ∷ 0x7FF8000000000000 ∷ old 1))
     -- the whole example: event 7, kind 1, numbers 2, 1, 2; h is CD 3B 7F 66 9E A0 E6 3F
     ∷ row (whole (7 ∷ 0 ∷ 0 ∷ 0 ∷ 1 ∷ 0 ∷ 0 ∷ 0 ∷ twoBytes ++ oneBytes ++ twoBytes ++ replicate 72 0))
     (slice 0

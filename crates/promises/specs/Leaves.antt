@@ -5,7 +5,7 @@ use mathlib.Core.Logic.{_⊎_}
 use Prim.Native.Nat.{ℕ, _-_}
 use lib.ListN.{length, getD, take, drop, replicate}
 use lib.Ieee.{Format}
-use Rattle.cholesky.specs.Pivots.{refusedPivot}
+use Rattle.cholesky.specs.Pivots.{refusedPivot, Stopped}
 use Rattle.promises.specs.Scope.{answerLength, kindIn}
 use Rattle.promises.specs.Conditions.{pivotsIn}
 
@@ -25,9 +25,9 @@ pub record Leaves (f : Format) (request answer : List ℕ) (code : ℕ) (left : 
   -- before it stand the request's event number and kind; zeros with 1
   pub event : Not 2 code → Not 1 code → take 5 left ≡ take 5 request
   pub unread : code ≡ 1 → take 5 left ≡ replicate 5 0
-  -- byte 6 has with 6 the number of the first pivot that is at most zero, and with 0 the rotations of a kind that counts them; it is zero otherwise
-  pub pivot : code ≡ 6 → getD left 6 0 ≡ refusedPivot f 1 (pivotsIn f request)
-  pub uncounted : Not 2 code → Not 6 code → ((code ≡ 0) × Turned (kindIn request) → ⊥) → getD left 6 0 ≡ 0
+  -- byte 6 has with 6 and 9 the number of the first pivot that has no root, and with 0 the rotations of a kind that counts them; it is zero otherwise
+  pub pivot : Stopped code → getD left 6 0 ≡ refusedPivot f 1 (pivotsIn f request)
+  pub uncounted : Not 2 code → (Stopped code → ⊥) → ((code ≡ 0) × Turned (kindIn request) → ⊥) → getD left 6 0 ≡ 0
   -- the mark, byte 7, is 1 with 0 for a kind that is not turned; it and all numbers are zero with any code but 0
   pub settled : code ≡ 0 → (Turned (kindIn request) → ⊥) → getD left 7 0 ≡ 1
   pub unmarked : Not 2 code → Not 0 code → getD left 7 0 ≡ 0

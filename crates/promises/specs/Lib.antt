@@ -4,4 +4,5 @@ pub mod Conditions
 pub mod Wiring
 pub mod Vouched
 pub mod Leaves
+pub mod NanPivots
 pub mod Counted
