@@ -16,24 +16,31 @@
 
 enum { RECORDS = 1024, STANDARD_INPUT = 0, STANDARD_OUTPUT = 1 };
 
-static const char *const words[] = {
-    "done",
-    "an input has a wrong length",
-    "the answer has a wrong length",
-    "the kind is not 1 to 8",
-    "a reserved byte or an unused number is not zero",
-    "an input number is not finite",
-    "a pivot is at most zero",
-    "a number of the answer is not finite",
+struct code {
+    uint8_t number;
+    const char *words;
 };
 
-enum { CODES = sizeof words / sizeof words[0] };
+static const struct code codes[] = {
+    {ZANIKORY_CODE_DONE, "done"},
+    {ZANIKORY_CODE_INPUT_LENGTH, "an input has a wrong length"},
+    {ZANIKORY_CODE_OUTPUT_LENGTH, "the answer has a wrong length"},
+    {ZANIKORY_CODE_UNKNOWN_KIND, "the kind is not 1 to 8"},
+    {ZANIKORY_CODE_RESERVED, "a reserved byte or an unused number is not zero"},
+    {ZANIKORY_CODE_INPUT_NOT_FINITE, "an input number is not finite"},
+    {ZANIKORY_CODE_PIVOT, "a pivot is at most zero"},
+    {ZANIKORY_CODE_ANSWER_NOT_FINITE, "a number of the answer is not finite"},
+    {ZANIKORY_CODE_NAN_PIVOT, "a pivot is NaN"},
+};
+
+enum { CODES = sizeof codes / sizeof codes[0] };
 
 /* What is read and not answered yet, from its first byte on, and the answers to be written. */
 static uint8_t requests[RECORDS * ZANIKORY_REQUEST_SIZE];
 static uint8_t answers[RECORDS * ZANIKORY_ANSWER_SIZE];
 
-static unsigned long long tally[CODES], bytes_written;
+/* How often each code was given, which is a byte, and what is written so far. */
+static unsigned long long tally[256], bytes_written;
 
 /* ---- a signal that arrives in between is no failure: the call is made again */
 
@@ -69,8 +76,7 @@ static void answer(size_t i, size_t length)
 {
     uint8_t code = zanikory_answer_record(requests + i * ZANIKORY_REQUEST_SIZE, length,
                                           answers + i * ZANIKORY_ANSWER_SIZE, ZANIKORY_ANSWER_SIZE);
-    if (code < CODES)
-        tally[code]++;
+    tally[code]++;
 }
 
 /* Answers the whole requests among so many bytes, and moves the rest to the front. Gives 0 if all is
@@ -97,8 +103,9 @@ static int failed(const char *what)
 
 static void print_tally(void)
 {
-    for (int code = 0; code < CODES; code++)
-        fprintf(stderr, "code %d  %-47s  %llu\n", code, words[code], tally[code]);
+    for (size_t i = 0; i < CODES; i++)
+        fprintf(stderr, "code %d  %-47s  %llu\n", codes[i].number, codes[i].words,
+                tally[codes[i].number]);
 }
 
 int main(void)

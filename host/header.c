@@ -215,6 +215,35 @@ static int kind_bytes(void)
     return end(&known) + end(&unknown);
 }
 
+struct refused_pivot {
+    double matrix[6];
+    uint8_t code, number;
+};
+
+static const struct refused_pivot refused_pivots[] = {
+    {{-1, 0, 1, 0, 0, 1}, ZANIKORY_CODE_PIVOT, 1},
+    {{1, 1, 1, 0, 0, 1}, ZANIKORY_CODE_PIVOT, 2},
+    {{1, 0, 1, 1, 0, 1}, ZANIKORY_CODE_PIVOT, 3},
+    {{0x1p-1074, 0, 1, 0x1p1023, 0, 1}, ZANIKORY_CODE_NAN_PIVOT, 3},
+};
+
+/* Each pivot that a 3x3 factor stops at with 6 and with 9, of both kinds that have such a factor. */
+static int pivots(void)
+{
+    static const uint8_t numbers[] = {ZANIKORY_KIND_CHOLESKY_3X3, ZANIKORY_KIND_FACTOR_AND_SOLVE_3X3};
+    struct tried tried = begin("6 and 9: each pivot that is refused");
+    for (size_t i = 0; i < sizeof refused_pivots / sizeof refused_pivots[0]; i++)
+        for (size_t k = 0; k < sizeof numbers; k++) {
+            const struct refused_pivot *pivot = &refused_pivots[i];
+            struct request r = good(&kinds[numbers[k] - kinds[0].number]);
+            memcpy(r.bytes + ZANIKORY_REQUEST_NINE_AT, pivot->matrix, sizeof pivot->matrix);
+            struct expected e = refused(&r, pivot->code);
+            e.answer[ZANIKORY_ANSWER_PIVOT_AT] = pivot->number;
+            call(&tried, &r, ZANIKORY_REQUEST_SIZE, ZANIKORY_ANSWER_SIZE, &e);
+        }
+    return end(&tried);
+}
+
 /* ---- the other library, so that the program has both: the factor over an old one, which is lent */
 
 struct factored {
@@ -245,7 +274,7 @@ static int both_libraries(void)
 
 int main(void)
 {
-    int wrong = lengths() + example() + kind_bytes() + not_finite() + both_libraries();
+    int wrong = lengths() + example() + kind_bytes() + not_finite() + pivots() + both_libraries();
     printf("%d wrong\n", wrong);
     return wrong != 0;
 }

@@ -1,7 +1,8 @@
 /* Shows what becomes of the bits of NaNs, zeros, infinities and subnormals that the entries on arrays
-   move or leave alone. Their promises say NaN and not which, so words are compared here with those that
-   the moving of words gives. One line for each kind of call, with how many were tried; the first that
-   is wrong of a kind has a line of its own. Ends with 1 if any is. */
+   move or leave alone, and the bits of the one NaN that they make themselves, that of a factor which stops
+   at a NaN pivot. Their promises say NaN and not which, so words are compared here with those that the
+   moving of words gives. One line for each kind of call, with how many were tried; the first that is wrong
+   of a kind has a line of its own. Ends with 1 if any is. */
 #include <stddef.h>
 #include <stdint.h>
 #include <stdio.h>
@@ -12,8 +13,13 @@
 
 #define SIGN 0x8000000000000000u
 #define ONE 0x3FF0000000000000u
+#define TWO 0x4000000000000000u
+#define INFINITE 0x7FF0000000000000u
+#define THE_NAN 0x7FF8000000000000u
 #define MAX 1.7976931348623157e308
 #define TINY 4.9406564584124654e-324
+#define LARGE 0x1p1023
+#define ROOT_OF_TINY 0x1E60000000000000u /* 2^-537 */
 
 /* volatile: each is read when the program runs, so the compiler can work out nothing beforehand. */
 static const volatile uint64_t patterns[] = {
@@ -390,23 +396,32 @@ struct stop {
     double matrix[6];
     uint8_t code, pivot;
     size_t writes;
-    double written[6];
+    uint64_t written[6];
 };
 
-/* Size 2 has no 7: where the second number is too large, the pivot behind it is -infinity. */
+/* A third pivot is NaN where L21 is a zero and L31 an infinity, of either sign. Their product, and so L32, is
+   a NaN whose bits the processor chooses: x86-64 sets the sign. L32 is written with those of THE_NAN all the
+   same. Size 2 has no 9: where its second number is too large, the pivot behind it is -infinity. */
 static const struct stop stops[] = {
-    {"done: nothing of the old factor", 3, {4, 2, 5}, 0, 0, 3, {2, 1, 2}},
+    {"done: nothing of the old factor", 3, {4, 2, 5}, 0, 0, 3, {TWO, ONE, TWO}},
     {"6 at pivot 1: the old factor", 3, {-0.0, 1, 1}, 6, 1, 0, {0}},
-    {"6 at pivot 2: its last place", 3, {1, 1, 1}, 6, 2, 2, {1, 1}},
-    {"done: nothing of the old factor", 6, {4, 2, 5, 2, 3, 6}, 0, 0, 6, {2, 1, 2, 1, 1, 2}},
+    {"6 at pivot 2: its last place", 3, {1, 1, 1}, 6, 2, 2, {ONE, ONE}},
+    {"done: nothing of the old factor", 6, {4, 2, 5, 2, 3, 6}, 0, 0, 6, {TWO, ONE, TWO, ONE, ONE, TWO}},
     {"6 at pivot 1: the old factor", 6, {-1, 1, 1, 1, 1, 1}, 6, 1, 0, {0}},
-    {"6 at pivot 2: its last four places", 6, {1, 1, 1, 1, 1, 1}, 6, 2, 2, {1, 1}},
-    {"6 at pivot 3: its last place", 6, {1, 0, 1, 1, 0, 1}, 6, 3, 5, {1, 0, 1, 1, 0}},
-    {"7: the old factor", 6, {TINY, 0, 1, 0x1p1023, 0, 1}, 7, 0, 0, {0}},
+    {"6 at pivot 2: its last four places", 6, {1, 1, 1, 1, 1, 1}, 6, 2, 2, {ONE, ONE}},
+    {"6 at pivot 3: its last place", 6, {1, 0, 1, 1, 0, 1}, 6, 3, 5, {ONE, 0, ONE, ONE, 0}},
+    {"9 by +0 and +infinity: its last place", 6, {TINY, 0.0, 1, LARGE, 0, 1}, 9, 3, 5,
+     {ROOT_OF_TINY, 0, ONE, INFINITE, THE_NAN}},
+    {"9 by +0 and -infinity: its last place", 6, {TINY, 0.0, 1, -LARGE, 0, 1}, 9, 3, 5,
+     {ROOT_OF_TINY, 0, ONE, SIGN | INFINITE, THE_NAN}},
+    {"9 by -0 and +infinity: its last place", 6, {TINY, -0.0, 1, LARGE, 0, 1}, 9, 3, 5,
+     {ROOT_OF_TINY, SIGN, ONE, INFINITE, THE_NAN}},
+    {"9 by -0 and -infinity: its last place", 6, {TINY, -0.0, 1, -LARGE, 0, 1}, 9, 3, 5,
+     {ROOT_OF_TINY, SIGN, ONE, SIGN | INFINITE, THE_NAN}},
 };
 
-/* The call over an old factor of m numbers, of which l_length are lent. It must write the first numbers of
-   the stop, and the pivot's number over a byte that is none. */
+/* The call over an old factor of m numbers, of which l_length are lent. It must write the first words of the
+   stop, and the pivot's number over a byte that is none. */
 static void over(struct kind *kind, factor *call, size_t m, const struct numbers *old, size_t l_length,
                  const double *a, size_t a_length, const struct stop *stop)
 {
@@ -414,7 +429,7 @@ static void over(struct kind *kind, factor *call, size_t m, const struct numbers
     lend();
     leave(old->doubles, m);
     memcpy(room, left, sizeof room);
-    leave(stop->written, stop->writes);
+    memcpy(left + 1, stop->written, stop->writes * sizeof *left);
     judge(kind, call(room + 1, l_length, a, a_length, &pivot), stop->code);
     if (pivot != stop->pivot) {
         printf("%s: pivot %d, expected %d\n", kind->function, pivot, stop->pivot);

@@ -20,9 +20,10 @@ extern "C" {
 
 /* ---- codes */
 
-/* What an entry answers. With more than one reason to refuse, the order is 2, 1, 3, 4, 5, 6, 7. The
-   worked matrix of a 3x3 call counts among the numbers of its answer, though no record has it. 14 is of
-   tallies alone (zanikory_tally.h). */
+/* What an entry answers. With more than one reason to refuse, the order is 2, 1, 3, 4, 5, then 6 or 9, then
+   7. 6 and 9 never meet: a factor stops at the first pivot that has no root, since it is at most zero or
+   NaN. The worked matrix of a 3x3 call counts among the numbers of its answer, though no record has it. 14
+   is of tallies alone (zanikory_tally.h). */
 enum zanikory_code {
     ZANIKORY_CODE_DONE = 0,              /* none of the others */
     ZANIKORY_CODE_INPUT_LENGTH = 1,      /* an input has a wrong length */
@@ -32,6 +33,7 @@ enum zanikory_code {
     ZANIKORY_CODE_INPUT_NOT_FINITE = 5,  /* a used input number is NaN or infinite */
     ZANIKORY_CODE_PIVOT = 6,             /* a pivot is at most zero */
     ZANIKORY_CODE_ANSWER_NOT_FINITE = 7, /* a number of the answer is NaN or infinite */
+    ZANIKORY_CODE_NAN_PIVOT = 9,         /* a pivot is NaN */
     ZANIKORY_CODE_COUNT_TOO_LARGE = 14   /* a count would pass 64 bits */
 };
 
@@ -56,9 +58,9 @@ enum zanikory_code {
    bits: -0 is not.
 
    Places of an answer that its kind does not use are zero bytes. Byte 6 is the number of rotations for
-   kinds 2 and 4, the number of the refused pivot (1, 2 or 3) with code 6, and else 0. With code 0 byte 7
-   is 1; for kinds 2 and 4 it is 0 where 25 rotations did not settle the matrix, and the numbers are
-   those of the 25th. */
+   kinds 2 and 4, the number of the refused pivot (1, 2 or 3) with codes 6 and 9, and else 0. With code 0
+   byte 7 is 1; for kinds 2 and 4 it is 0 where 25 rotations did not settle the matrix, and the numbers are
+   those of the 25th. A pivot is NaN only as the third one, so 9 is of kinds 6 and 8 alone. */
 
 #define ZANIKORY_REQUEST_SIZE 104
 #define ZANIKORY_REQUEST_EVENT_AT 0
@@ -95,7 +97,8 @@ enum zanikory_kind {
      0               the whole answer
      1               zeros, but for the code: the request does not have 104 bytes
      2               the answer as it was: it does not have 176 bytes
-     3, 4, 5, 6, 7   the request's event number and kind, the code, with 6 the pivot's number, and zeros
+     3, 4, 5, 7      the request's event number and kind, the code, and zeros
+     6, 9            the same, and the pivot's number
 
    The caller keeps that neither pointer is null, that each is valid for its length, 0 included, and that
    the two do not overlap; nothing of that can be checked here. Nothing else is read or written, and no
@@ -122,8 +125,8 @@ uint8_t zanikory_answer_record(const uint8_t *request, size_t request_length, ui
    A square matrix of size n has n * n numbers, column by column. A symmetric one has its upper
    triangle, column by column: A11, A12, A22, and A13, A23, A33.
 
-   Numbers that stay keep every bit, those of a NaN too: the promise says NaN, and host/nan_moves.c
-   shows the bits. */
+   Numbers that stay keep every bit, those of a NaN too, and the NaN that comes with 9 has the bits
+   7FF8000000000000: the promise says NaN, and host/nan_moves.c shows the bits. */
 
 /* y = A x, where y and x have as many places as the matrix has rows. What is refused leaves y. */
 uint8_t zanikory_mat2_mul(const double *a, size_t a_length, double *y, size_t y_length,
@@ -136,9 +139,11 @@ uint8_t zanikory_sym3_mul(const double *h, size_t h_length, double *y, size_t y_
                           const double *x, size_t x_length);
 
 /* The Cholesky factor L of A = L L', packed as A is, where an old factor stands; l and a have 3 or 6
-   places. With 0 all of l is new. With 6 the places before the refused pivot are new and the rest are
-   the old factor's; with 5 and 7 all are. One byte is written at pivot: the number of the refused pivot
-   (1, 2 or 3) with 6, and else 0. It is not null. */
+   places. With 0 all of l is new. With 6 and 9 the places before the refused pivot are new and the rest
+   are the old factor's; with 5 all are. With 9, which the 2x2 does not give, it is the third pivot, L21 is
+   a zero, L31 is infinite and L32 is NaN. 7 is not given: a factor whose pivots all have roots is finite.
+   One byte is written at pivot: the number of the refused pivot (1, 2 or 3) with 6 and 9, and else 0. It is
+   not null. */
 uint8_t zanikory_cholesky_2x2_factor(double *l, size_t l_length, const double *a, size_t a_length,
                                      uint8_t *pivot);
 uint8_t zanikory_cholesky_3x3_factor(double *l, size_t l_length, const double *a, size_t a_length,

@@ -1,7 +1,7 @@
 //! The Cholesky factors and the solutions they give, against the crate's.
 
 use crate::algebra::{DenseFactorizationError, DenseMatrixSym2, DenseMatrixSym3, DenseMatrixSymN};
-use crate::codes::{ANSWER_NOT_FINITE, DONE, INPUT_NOT_FINITE, PIVOT};
+use crate::codes::{ANSWER_NOT_FINITE, DONE, INPUT_NOT_FINITE, NAN_PIVOT, PIVOT};
 use crate::float::{bits, listed, SIGN};
 use crate::lent::{self, Wants};
 use crate::numbers::{
@@ -82,7 +82,7 @@ const SMALLEST: f64 = f64::from_bits(1);
 const LARGE: f64 = f64::from_bits(0x7FE0_0000_0000_0000);
 
 /// The first matrices: one that has a factor, one whose last pivot is 0, some with a pivot of -0, and one of size 3 whose third
-/// pivot is no number.
+/// pivot is NaN.
 const LISTED2: [[f64; 3]; 4] = [
     [4.0, 2.0, 5.0],
     [1.0, 1.0, 1.0],
@@ -95,7 +95,16 @@ const LISTED3: [[f64; 6]; 6] = [
     [-0.0, 0.0, 1.0, 0.0, 0.0, 1.0],
     [1.0, 0.0, -0.0, 0.0, 0.0, 1.0],
     [1.0, 0.0, 1.0, 0.0, -0.0, -0.0],
+    NAN_PIVOTS[0],
+];
+
+/// Matrices whose third pivot is NaN: L21 is a zero and L31 an infinity, with each sign of both. A subject lists the first alone, since
+/// a longer list would change each random input behind it; one in a hundred of those is of each sort.
+pub const NAN_PIVOTS: [[f64; 6]; 4] = [
     [SMALLEST, 0.0, 1.0, LARGE, 0.0, 1.0],
+    [SMALLEST, 0.0, 1.0, -LARGE, 0.0, 1.0],
+    [SMALLEST, -0.0, 1.0, LARGE, 0.0, 1.0],
+    [SMALLEST, -0.0, 1.0, -LARGE, 0.0, 1.0],
 ];
 
 pub type Sym<const S: usize> = DenseMatrixSymN<S, f64>;
@@ -269,16 +278,21 @@ branches!(Factor {
     Zeros = "input: ones and zeros of both signs",
     Far = "input: a tiny first pivot",
     Any = "input: any numbers",
-    // Of size 2 a factor with a NaN or an infinity has a pivot of -infinity, so 7 is no branch there.
+    // Of size 2 no pivot is NaN, so 9 is no branch there: the number below the first root is finite or infinite. At neither size
+    // is 7 one: a factor whose pivots all have roots is finite.
     Below3 = "6: pivot 3 below 0",
     PlusZero3 = "6: pivot 3 is +0",
     MinusZero3 = "6: pivot 3 is -0",
     Infinite3 = "6: pivot 3 is -infinity",
-    Answer = "7: pivot 3 is NaN",
-    OldAnswer = "7: NaN in the old factor",
+    Nan3 = "9: pivot 3 is NaN",
+    OldNan = "9: NaN in the old factor",
     Matrix4 = "5: by place 4 of the matrix",
     Matrix5 = "5: by place 5 of the matrix",
     Matrix6 = "5: by place 6 of the matrix",
+    NanPlusPlus = "9: L21 is +0, L31 is +infinity",
+    NanPlusMinus = "9: L21 is +0, L31 is -infinity",
+    NanMinusPlus = "9: L21 is -0, L31 is +infinity",
+    NanMinusMinus = "9: L21 is -0, L31 is -infinity",
 });
 
 fn factor_input<const S: usize>(
@@ -304,7 +318,9 @@ fn factor_input<const S: usize>(
     spoil(random, a);
 }
 
-/// What a factor's call gives: its code, the number of a refused pivot, and what then stands where the old factor stood.
+/// What a factor's call gives: its code, the number of a refused pivot, and what then stands where the old factor stood. The crate
+/// lets a NaN pivot pass: the 9 is a difference from it. Such a pivot is worked out from the numbers that the crate wrote, and those
+/// before its root are the answer's, as the crate wrote them but for the bits of a NaN.
 pub fn factored<const S: usize>(old: &Sym<S>, a: &Sym<S>) -> (u64, u64, Sym<S>)
 where
     Sym<S>: Size,
@@ -315,8 +331,30 @@ where
     let mut l = old.clone();
     match l.factor(a) {
         Err(DenseFactorizationError::Cholesky(k)) => (PIVOT, k as u64, l),
-        Ok(()) if all_finite(&l.data) => (DONE, 0, l),
-        Ok(()) => (ANSWER_NOT_FINITE, 0, old.clone()),
+        Ok(()) => match (1..=Sym::<S>::N).find(|k| pivot_of(*k, &a.data, &l.data).is_nan()) {
+            Some(k) => (NAN_PIVOT, k as u64, stopped(old, &l, k)),
+            None if all_finite(&l.data) => (DONE, 0, l),
+            None => (ANSWER_NOT_FINITE, 0, old.clone()),
+        },
+    }
+}
+
+/// The pivot with this number, by the factor as far as it is written before.
+fn pivot_of(number: usize, a: &[f64], l: &[f64]) -> f64 {
+    match number {
+        1 => a[0],
+        2 => a[2] - l[1] * l[1],
+        _ => a[5] - l[3] * l[3] - l[4] * l[4],
+    }
+}
+
+/// What stands if the crate's steps stop at this pivot: the crate's numbers before the place of its root, with the port's pattern for
+/// each NaN among them, and from that place on the old factor's.
+fn stopped<const S: usize>(old: &Sym<S>, l: &Sym<S>, pivot: usize) -> Sym<S> {
+    let root = pivot * (pivot + 1) / 2 - 1;
+    let written = |i: usize| f64::from_bits(bits(l.data[i]));
+    DenseMatrixSymN {
+        data: std::array::from_fn(|i| if i < root { written(i) } else { old.data[i] }),
     }
 }
 
@@ -356,46 +394,50 @@ fn count_factor(old: &[f64], a: &[f64], code: u64, pivot: u64, l: &[f64], hits: 
             if spoilt {
                 hit(Factor::OldPivot);
             }
-            hit(refused_pivot(pivot, a, l));
+            hit(refused_pivot(pivot as usize, a, l));
         }
-        _ => {
-            hit(Factor::Answer);
+        NAN_PIVOT => {
+            hit(Factor::Nan3);
             if spoilt {
-                hit(Factor::OldAnswer);
+                hit(Factor::OldNan);
             }
+            hits.hit(Factor::NanPlusPlus as usize + signs(pivot, l));
         }
+        _ => panic!("code {code} of a factor, of {a:?}"),
     }
 }
 
-/// The branch of the pivot with this number, by the factor as far as it was written.
-fn refused_pivot(pivot: u64, a: &[f64], l: &[f64]) -> Factor {
-    match pivot {
-        1 => refused(
-            a[0],
+/// The branch of the pivot with this number, which is at most 0, by the factor as far as it was written.
+fn refused_pivot(pivot: usize, a: &[f64], l: &[f64]) -> Factor {
+    let ([below, plus_zero, minus_zero], infinite) = match pivot {
+        1 => (
             [Factor::Below1, Factor::PlusZero1, Factor::MinusZero1],
             Factor::Below1,
         ),
-        2 => refused(
-            a[2] - l[1] * l[1],
+        2 => (
             [Factor::Below2, Factor::PlusZero2, Factor::MinusZero2],
             Factor::Infinite2,
         ),
-        _ => refused(
-            a[5] - l[3] * l[3] - l[4] * l[4],
+        _ => (
             [Factor::Below3, Factor::PlusZero3, Factor::MinusZero3],
             Factor::Infinite3,
         ),
-    }
-}
-
-/// The branch of a pivot that is refused.
-fn refused(t: f64, [below, plus_zero, minus_zero]: [Factor; 3], infinite: Factor) -> Factor {
+    };
+    let t = pivot_of(pivot, a, l);
     match t {
         _ if t.to_bits() == 0 => plus_zero,
         _ if t.to_bits() == SIGN => minus_zero,
         _ if t.is_infinite() => infinite,
         _ => below,
     }
+}
+
+/// Which of the four cases of a NaN pivot it is, by the sign of L21 and then that of L31. There is no other: it is the third, L21 is
+/// a zero and L31 is infinite.
+fn signs(pivot: u64, l: &[f64]) -> usize {
+    assert_eq!(pivot, 3, "a NaN pivot is the third, over {l:?}");
+    assert!(l[1] == 0.0 && l[3].is_infinite(), "by other numbers: {l:?}");
+    2 * usize::from(l[1].is_sign_negative()) + usize::from(l[3].is_sign_negative())
 }
 
 // ---- solutions by a factor, on lent slices
@@ -436,7 +478,11 @@ branches!(Solved {
     Pivot2 = "6: pivot 2",
     Solution = "7: by the solution",
     Pivot3 = "6: pivot 3",
-    Factor = "7: by the factor",
+    Nan3 = "9: pivot 3 is NaN",
+    NanPlusPlus = "9: L21 is +0, L31 is +infinity",
+    NanPlusMinus = "9: L21 is +0, L31 is -infinity",
+    NanMinusPlus = "9: L21 is -0, L31 is +infinity",
+    NanMinusMinus = "9: L21 is -0, L31 is -infinity",
 });
 
 fn solved_input<const S: usize>(
@@ -499,8 +545,13 @@ where
         Err((INPUT_NOT_FINITE, _)) if all_finite(&a.data) => Solved::Side,
         Err((INPUT_NOT_FINITE, _)) => Solved::Matrix,
         Err((PIVOT, k)) => [Solved::Pivot1, Solved::Pivot2, Solved::Pivot3][*k as usize - 1],
+        Err((NAN_PIVOT, k)) => {
+            let (_, _, l) = factored(&Sym::<S>::zeros(), &a);
+            hits.hit(Solved::NanPlusPlus as usize + signs(*k, &l.data));
+            Solved::Nan3
+        }
         Err(_) if factored(&Sym::<S>::zeros(), &a).0 == DONE => Solved::Solution,
-        Err(_) => Solved::Factor,
+        Err((code, _)) => panic!("code {code} by the factor, of {:?}", a.data),
     };
     hits.hit(branch as usize);
     match answer {
@@ -521,7 +572,7 @@ branches!(Pivot {
     MinusZero = "refused: -0",
     MinusInfinity = "refused: -infinity",
     PlusInfinity = "a root: +infinity",
-    Nan = "a root: NaN",
+    Nan = "refused: NaN",
 });
 
 fn pivot_input(random: &mut Random, number: u64, words: &mut [u64], _: &mut Hits) {
@@ -547,8 +598,12 @@ fn pivot(input: &[u64], out: &mut [u64], hits: &mut Hits) {
         _ if t < 0.0 => Pivot::Below,
         _ => Pivot::Root,
     } as usize);
-    let refused = t <= 0.0;
-    out[0] = if refused { PIVOT } else { DONE };
-    out[1] = if refused { input[1] } else { 0 };
-    out[2] = if refused { 0 } else { bits(t.sqrt()) };
+    let code = match t {
+        _ if t <= 0.0 => PIVOT,
+        _ if t.is_nan() => NAN_PIVOT,
+        _ => DONE,
+    };
+    out[0] = code;
+    out[1] = if code == DONE { 0 } else { input[1] };
+    out[2] = if code == DONE { bits(t.sqrt()) } else { 0 };
 }

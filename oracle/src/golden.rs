@@ -1,7 +1,8 @@
 //! The golden list of the operations: for each one of the probe its subject's inputs, with the right answers. The list is fixed.
 
 use crate::codes::{
-    ANSWER_NOT_FINITE, DONE, INPUT_LENGTH, INPUT_NOT_FINITE, OUTPUT_LENGTH, OUTSIDE, PIVOT,
+    ANSWER_NOT_FINITE, DONE, INPUT_LENGTH, INPUT_NOT_FINITE, NAN_PIVOT, OUTPUT_LENGTH, OUTSIDE,
+    PIVOT,
 };
 use crate::random::Random;
 use crate::subject::{Hits, Subject};
@@ -136,7 +137,6 @@ fn codes_of(subject: &Subject) -> (&'static [usize], &'static [u64]) {
         INPUT_NOT_FINITE,
         ANSWER_NOT_FINITE,
     ];
-    const PIVOTS: &[u64] = &[DONE, INPUT_NOT_FINITE, PIVOT, ANSWER_NOT_FINITE];
     match subject.operation {
         1..=8 | 52..=58 | 66..=72 => (&[], &[]),
         16..=19 => (&[0, 2, 4], &[DONE, OUTSIDE]),
@@ -149,8 +149,13 @@ fn codes_of(subject: &Subject) -> (&'static [usize], &'static [u64]) {
         ),
         22 | 23 | 28 | 48..=51 | 59 | 64 | 65 => (&[0], JUDGED),
         32 => (&[0], &[DONE, INPUT_NOT_FINITE, PIVOT]),
-        33 | 36 | 37 => (&[0], PIVOTS),
-        38 => (&[0], &[DONE, PIVOT]),
+        33 => (&[0], &[DONE, INPUT_NOT_FINITE, PIVOT, NAN_PIVOT]),
+        36 => (&[0], &[DONE, INPUT_NOT_FINITE, PIVOT, ANSWER_NOT_FINITE]),
+        37 => (
+            &[0],
+            &[DONE, INPUT_NOT_FINITE, PIVOT, NAN_PIVOT, ANSWER_NOT_FINITE],
+        ),
+        38 => (&[0], &[DONE, PIVOT, NAN_PIVOT]),
         other => panic!("say here which codes operation {other} gives"),
     }
 }

@@ -1,5 +1,6 @@
 //! The requests that come first in every file: the scope's examples, and one by one what chance may leave out.
 
+use crate::cholesky::NAN_PIVOTS;
 use crate::eigen::isotropic;
 use crate::float::{HIDDEN, INFINITY, NAN, SIGN};
 use crate::kinds::Kind;
@@ -24,6 +25,7 @@ pub fn listed() -> Vec<Request> {
         all.extend(not_zero(kind));
         all.extend(not_finite(kind));
     }
+    all.extend(nan_pivots());
     for (number, request) in all.iter_mut().enumerate().skip(1) {
         // so that all four bytes of the event's number are used
         request.event = (number as u32).wrapping_mul(0x9E37_79B1);
@@ -205,6 +207,39 @@ fn not_finite(kind: u8) -> Vec<Request> {
         let mut both = *all.last().expect("one");
         both.reserved[place % 3] = 1;
         all.push(both);
+    }
+    all
+}
+
+/// A third pivot that is NaN, through each sign of L21 and of L31, whatever the other three numbers are if A22 is above 0. Then the same
+/// with what comes before it: a second pivot of 0, an infinity, and a reserved byte.
+fn nan_pivots() -> Vec<Request> {
+    const LEAST: f64 = f64::from_bits(1);
+    const OTHERS: [[f64; 3]; TIMES as usize] = [
+        [1.0, 0.0, 1.0],
+        [1.0, -0.0, 0.0],
+        [2.0, 1.0, -0.0],
+        [0.5, -1.0, -1.0],
+        [LEAST, f64::MAX, f64::MAX],
+        [LEAST, -f64::MAX, -f64::MAX],
+        [f64::MAX, LEAST, LEAST],
+        [f64::MAX, f64::MAX, -f64::MAX],
+    ];
+    let mut all = Vec::new();
+    for kind in [6, 8] {
+        for [a11, a12, _, a13, ..] in NAN_PIVOTS {
+            for [a22, a23, a33] in OTHERS {
+                let mut request = good(kind);
+                let matrix = [a11, a12, a22, a13, a23, a33];
+                request.nine[..6].copy_from_slice(&matrix.map(f64::to_bits));
+                all.push(request);
+            }
+            let mut before = [*all.last().expect("one"); 3];
+            before[0].nine[2] = 0;
+            before[1].nine[5] = INFINITY;
+            before[2].reserved[2] = 1;
+            all.extend(before);
+        }
     }
     all
 }

@@ -1,6 +1,6 @@
 //! How often each kind was answered with each code, from a file of requests and one with their answers.
 
-use crate::codes::{ANSWER_NOT_FINITE, DONE, INPUT_LENGTH, KIND, OF_RECORDS, PIVOT};
+use crate::codes::{ANSWER_NOT_FINITE, DONE, INPUT_LENGTH, KIND, NAN_PIVOT, OF_RECORDS, PIVOT};
 use crate::kinds::{row_of, KINDS, OTHER, ROWS};
 use crate::record::{ANSWER_BYTES, CODE_AT, COUNT_AT, KIND_AT, REQUEST_BYTES};
 use crate::stream::read_record;
@@ -17,13 +17,18 @@ fn possible(row: usize, code: u64) -> bool {
         INPUT_LENGTH => row == OTHER,
         // no kernel but the factors has pivots
         PIVOT => row >= 5,
-        // A 2x2 factor has a finite first root above 0, so the number below it is finite or infinite and never NaN. Where it is
-        // infinite, or its square is, the second pivot is -infinity, which is refused with 6.
-        ANSWER_NOT_FINITE => row != OTHER && row != 5,
+        // A factor has a finite first root above 0, so the numbers below it are finite or infinite and never NaN. Where L21 is
+        // infinite, or its square is, the second pivot is -infinity, which is refused with 6. So only a third pivot can be NaN.
+        NAN_PIVOT => pivots(row) == 3,
+        // a factor of which each pivot is a number above 0 is finite
+        ANSWER_NOT_FINITE => row != OTHER && row != 5 && row != 6,
         // each kind has reserved bytes, a used number, and an answer
         _ => row != OTHER,
     }
 }
+
+/// The codes that hand back a pivot's number, and what that pivot is.
+const OF_PIVOTS: [(u64, &str); 2] = [(PIVOT, "pivots <= 0"), (NAN_PIVOT, "NaN pivots")];
 
 /// A 2x2 factor has two pivots, and a 3x3 one three.
 fn pivots(row: usize) -> usize {
@@ -40,7 +45,8 @@ const SHOWN: usize = 40;
 /// Counts of answers.
 struct Table {
     tally: Tally,
-    pivots: [[u64; 4]; ROWS],
+    /// Of each code of pivots, by the pivot's number.
+    pivots: [[[u64; 4]; OF_PIVOTS.len()]; ROWS],
     /// What is not right, or was never met.
     faults: Vec<String>,
 }
@@ -50,7 +56,7 @@ struct Table {
 pub fn show(requests: &str, answers: &str) -> io::Result<bool> {
     let mut table = Table {
         tally: Tally::default(),
-        pivots: [[0; 4]; ROWS],
+        pivots: [[[0; 4]; OF_PIVOTS.len()]; ROWS],
         faults: Vec::new(),
     };
     table.read(requests, answers)?;
@@ -100,10 +106,11 @@ impl Table {
         let (row, code) = (row_of(answer[KIND_AT]), u64::from(answer[CODE_AT]));
         let (count, foreign) = (answer[COUNT_AT], self.tally.foreign);
         self.tally.count(answer).expect("a count of 64 bits");
-        let counts: &mut [u64] = match code {
-            DONE => &mut [0; 256],
-            PIVOT => &mut self.pivots[row],
-            _ => &mut [0],
+        let of_pivots = OF_PIVOTS.iter().position(|(one, _)| *one == code);
+        let counts: &mut [u64] = match of_pivots {
+            Some(place) => &mut self.pivots[row][place],
+            None if code == DONE => &mut [0; 256],
+            None => &mut [0],
         };
         match counts.get_mut(usize::from(count)) {
             Some(counted) if self.tally.foreign == foreign => *counted += 1,
@@ -141,16 +148,23 @@ impl Table {
 
     fn print_pivots(&mut self) {
         for row in 5..ROWS {
-            let mut line = format!("{:<16}refused pivots", name(row));
-            for pivot in 0..4 {
-                let possible = (1..=pivots(row)).contains(&pivot);
-                let count = self.pivots[row][pivot];
-                let cell = self.cell(format!("{}, pivot {pivot}", name(row)), count, possible);
-                if possible {
-                    line += &format!("  {pivot}: {cell}");
+            for (place, (code, what)) in OF_PIVOTS.into_iter().enumerate() {
+                let mut line = format!("{:<16}{what}", name(row));
+                // a pivot before the third is never NaN
+                let first = if code == NAN_PIVOT { 3 } else { 1 };
+                for pivot in 0..4 {
+                    let possible = (first..=pivots(row)).contains(&pivot);
+                    let count = self.pivots[row][place][pivot];
+                    let name = format!("{}, code {code}, pivot {pivot}", name(row));
+                    let cell = self.cell(name, count, possible);
+                    if possible {
+                        line += &format!("  {pivot}: {cell}");
+                    }
+                }
+                if possible(row, code) {
+                    println!("{line}");
                 }
             }
-            println!("{line}");
         }
     }
 
