@@ -2,6 +2,7 @@
 
 use crate::race::{race, Race};
 use crate::straight;
+use reference::cholesky::NAN_PIVOTS;
 use reference::kinds::KINDS;
 use reference::nights;
 use reference::random::Random;
@@ -154,10 +155,21 @@ pub fn all(tell: &mut dyn FnMut(Race)) -> Result<(), String> {
         0,
         &night(REQUESTS),
     )?);
+    let nan_pivot = changed(6, |request| {
+        for place in [0, 1, 3] {
+            request.nine[place] = NAN_PIVOTS[0][place].to_bits();
+        }
+    });
+    tell(race_of_records(
+        "record, refused with 9",
+        ORACLE,
+        9,
+        &nan_pivot,
+    )?);
     Ok(())
 }
 
-/// Requests of a kind with something changed, so that no kernel has anything to do.
+/// Requests of a kind with something changed, so that they are refused or no kernel has anything to do.
 fn changed(kind: u8, change: impl Fn(&mut Request)) -> Vec<Request> {
     let mut random = Random::new(u64::from(kind));
     let one = |_| {
