@@ -62,7 +62,7 @@ module _ (f : Format) (a : List Float) (fit : Fit f 3 a) (fin : Finite 3 a) wher
     l11-positive : T (positive (l11Of f a))
     l11-positive = root-positive f (at a 0) (fit 0 (omega arith)) (above-zero f (at a 0) (finite-below (at a 0) (fin 0 (omega arith))) first)
 
-    l21-number : isNan (l21Of f a) ≡ false
+    pub l21-number : isNan (l21Of f a) ≡ false
     l21-number = quotient-nan f (at a 1) (l11Of f a) l11-positive ∙ finite-no-nan (at a 1) (fin 1 (omega arith))
 
     pub second-number : isNan (secondOf f a) ≡ false
@@ -87,7 +87,7 @@ module _ (f : Format) (a : List Float) (fit : Fit f 6 a) (fin : Finite 6 a)
   fin3 : Finite 3 a
   fin3 i l = fin i (omega arith)
 
-  l31-number : isNan (l31Of f a) ≡ false
+  pub l31-number : isNan (l31Of f a) ≡ false
   l31-number = quotient-nan f (at a 3) (l11Of f a) (l11-positive f a fit3 fin3 first) ∙ finite-no-nan (at a 3) (fin 3 (omega arith))
 
   abbrev less : Float
@@ -96,7 +96,7 @@ module _ (f : Format) (a : List Float) (fit : Fit f 6 a) (fin : Finite 6 a)
   less-below : lt less (inf false) ≡ true
   less-below = left-below f (at a 5) (l31Of f a) (fit 5 (omega arith)) (finite-below (at a 5) (fin 5 (omega arith))) l31-number
 
-  l32-nan : isNan (thirdOf f a) ≡ isNan (l32Of f a)
+  pub l32-nan : isNan (thirdOf f a) ≡ isNan (l32Of f a)
   l32-nan = left-nan f less (l32Of f a) (sub-fits f _ _) less-below
 
   pub third-nan : isNan (thirdOf f a) ≡ eq (l21Of f a) (zeroF f) && infinite (l31Of f a)
