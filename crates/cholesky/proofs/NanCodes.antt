@@ -1,10 +1,8 @@
 -- The codes of the kernels, of numbers of the format. A factor that is whole is finite, so 7 comes from a solution alone. The pivots of the 2x2 are numbers,
 -- so 9 comes from the third pivot of the 3x3 alone, exactly if L21 is a zero and L31 is infinite.
-use Rattle.float.proofs.Words.{_≡_, refl, sym, ap, _∙_, Bool, true, false, _||_, List, _++_, ℕ, arith}
-use Rattle.float.proofs.Words.{length, Float, Format, binary64, le, toBits}
+use Rattle.float.proofs.Words.{_≡_, refl, sym, ap, _∙_, Bool, true, false, false≢true, List, _++_, ℕ, arith, length, Float, Format, binary64, toBits}
 use Rattle.float.specs.Width.{F}
 use Rattle.float.specs.Choice.{pick}
-use Rattle.float.specs.Constants.{zeroF}
 use Rattle.float.specs.Exactly.{Exactly}
 use Rattle.float.specs.Sign.{allFinite}
 use Rattle.float.proofs.Finite.{append-passes, parts-finite}
@@ -78,33 +76,30 @@ module _ (f : Format) (a b : List Float) where
       (allFinite (solution3Of f l b))
       (λ u t n. append-passes l (solution3Of f l b) (whole3-finite f a fit size (parts-finite a b u .0) t n (zeros f 6)))
 
--- ---- 9: never of the 2x2
-
-two-not-nine : (u t : Bool) (c : ℕ) → (c ≡ 9 → ⊥) → pick {A = ℕ} u (pick t 6 c) 5 ≡ 9 → ⊥
-two-not-nine false t c h e = omega arith
-two-not-nine true true c h e = omega arith
-two-not-nine true false c h e = h e
-
-pub not-nine : (t : Bool) → pick {A = ℕ} t 0 7 ≡ 9 → ⊥
-not-nine true e = omega arith
-not-nine false e = omega arith
-
-pub factor2-not-nine : (f : Format) (l a : List Float) → Fit f 3 a → length a ≡ 3 → factor2Of f l a .code ≡ 9 → ⊥
-factor2-not-nine f l a fit size e =
-    two-not-nine (allFinite a) (oneAtMostZero f (pivots2Of f a)) 0 (λ e. omega arith) (sym (factor2-given f l a fit size) ∙ e)
-
-pub solved2-not-nine : (f : Format) (a b : List Float) → Fit f 3 a → length a ≡ 3 → factorAndSolve2Of f a b .code ≡ 9 → ⊥
-solved2-not-nine f a b fit size e =
-    let x = allFinite (solution2Of f (steps2Of f (zeros f 3) a .factor) b) in
-    two-not-nine (allFinite (a ++ b)) (oneAtMostZero f (pivots2Of f a)) (pick x 0 7) (not-nine x) (sym (solved2-given f a b fit size) ∙ e)
-
--- ---- and of the 3x3 exactly by its third pivot
+-- ---- 9: the tests that it passes
 
 pub nine-tests : (u t n : Bool) (c : ℕ) → (c ≡ 9 → ⊥) → _≡_ {A = ℕ} (pick u (pick t 6 (pick n 9 c)) 5) 9 → (u ≡ true) × (t ≡ false) × (n ≡ true)
 nine-tests false t n c h e = absurd (omega arith)
 nine-tests true true n c h e = absurd (omega arith)
 nine-tests true false true c h e = (refl, refl, refl)
 nine-tests true false false c h e = absurd (h e)
+
+pub not-nine : (t : Bool) → pick {A = ℕ} t 0 7 ≡ 9 → ⊥
+not-nine true e = omega arith
+not-nine false e = omega arith
+
+-- ---- never of the 2x2
+
+pub factor2-not-nine : (f : Format) (l a : List Float) → Fit f 3 a → length a ≡ 3 → factor2Of f l a .code ≡ 9 → ⊥
+factor2-not-nine f l a fit size e =
+    false≢true (nine-tests (allFinite a) (oneAtMostZero f (pivots2Of f a)) false 0 (λ e. omega arith) (sym (factor2-given f l a fit size) ∙ e) .2)
+
+pub solved2-not-nine : (f : Format) (a b : List Float) → Fit f 3 a → length a ≡ 3 → factorAndSolve2Of f a b .code ≡ 9 → ⊥
+solved2-not-nine f a b fit size e =
+    let x = allFinite (solution2Of f (steps2Of f (zeros f 3) a .factor) b) in
+    false≢true (nine-tests (allFinite (a ++ b)) (oneAtMostZero f (pivots2Of f a)) false (pick x 0 7) (not-nine x) (sym (solved2-given f a b fit size) ∙ e) .2)
+
+-- ---- and of the 3x3 exactly by its third pivot
 
 -- of a call whose code is known by its tests; c is its code where each pivot has a root
 nine : (f : Format) (a : List Float) → Fit f 6 a → length a ≡ 6 → (u : Bool) → (u ≡ true → allFinite a ≡ true) → (k c : ℕ) → (c ≡ 9 → ⊥)
@@ -132,11 +127,8 @@ unfolding refusedPivot
 third-refused f a fit size fin h =
     let p = not-at-most f (at a 0) (h .first) in
     let q = not-at-most f (secondOf f a) (h .second) in
-    rw (p .0, p .1, q .0, q .1) (rw (third-is-nan f a fit size fin h) (either-way (le (thirdOf f a) (zeroF f))))
-  where
-    either-way : (t : Bool) → pick {A = ℕ} (t || true) 3 0 ≡ 3
-    either-way true = refl
-    either-way false = refl
+    let n = third-is-nan f a fit size fin h in
+    rw (p .0, p .1, q .0, q .1) (rw (nan-not-at-most f (thirdOf f a) n, n))
 
 -- all that is left: the writes before it, with a NaN for L32
 steps-left : (f : Format) (l a : List Float) → Fit f 6 a → length a ≡ 6 → allFinite a ≡ true → NanThird f a

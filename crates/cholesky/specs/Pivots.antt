@@ -35,7 +35,7 @@ l32Of f a = div f (sub f (at a 4) (mul f (l21Of f a) (l31Of f a))) (l22Of f a)
 abbrev pub thirdOf : Format → List Float → Float
 thirdOf f a = sub f (sub f (at a 5) (mul f (l31Of f a) (l31Of f a))) (mul f (l32Of f a) (l32Of f a))
 
--- One counts only if those before it are above zero. If one of them is not, the steps have stopped already; and after a NaN all are NaN.
+-- A pivot counts only if those before it are above zero. If one of them is not, the steps have stopped already; and after a NaN all are NaN.
 
 abbrev pub pivots2Of : Format → List Float → List Float
 pivots2Of f a = at a 0 ∷ secondOf f a ∷ []

@@ -1,7 +1,7 @@
 -- A branch on the finite test is one way through `judged`, and what holds of both ways holds of it: `judged` is a choice by that test. A call has three ways,
--- and
--- only the one on which nothing is refused leaves code 0.
+-- and only the one on which nothing is refused leaves code 0.
 use Rattle.float.proofs.Words.{[], _≡_, refl, sym, _∙_, Bool, true, false, List, ℕ, arith, Float}
+use Rattle.float.specs.Choice.{pick}
 use Rattle.float.specs.Sign.{allFinite}
 use Rattle.float.specs.Judged.{judged, judgedCall}
 use Rattle.float.proofs.Choice.{by-test}
@@ -32,6 +32,23 @@ pub by-call : {A : Type 0} (refuse : ℕ → A) (used made : List Float) (r : A)
     → P (judgedCall refuse used made r)
 by-call refuse used made r P done seven five =
     by-judged refuse 5 used (judged refuse 7 made r) P (λ e. by-judged refuse 7 made r P (done e) (seven e)) five
+
+-- a change that leaves every refusal what it is changes the answer that is judged
+pub judged-through : {A : Type 0} (g : A → A) (refuse : ℕ → A) → ((k : ℕ) → g (refuse k) ≡ refuse k) → (used made : List Float) (r : A)
+    → g (judgedCall refuse used made r) ≡ judgedCall refuse used made (g r)
+unfolding judged
+judged-through g refuse own used made r =
+    by-call refuse used made r (λ q. g q ≡ judgedCall refuse used made (g r)) (λ i n. rw (i, n)) (λ i n. rw (i, n) (own 7)) (λ i. rw i (own 5))
+
+-- two judgements: the tests agree, and what holds of both answers holds where both stand
+pub both-judged : {A : Type 0} (R : A → A → Type 0) (refuse : ℕ → A) (k : ℕ) (xs ys : List Float) (r q : A) → allFinite xs ≡ allFinite ys
+    → (allFinite xs ≡ true → R r q) → R (refuse k) (refuse k) → R (judged refuse k xs r) (judged refuse k ys q)
+unfolding judged
+both-judged R refuse k xs ys r q e h n = rw (← e) (go (allFinite xs) h)
+  where
+    go : (t : Bool) → (t ≡ true → R r q) → R (pick t r (refuse k)) (pick t q (refuse k))
+    go true h = h refl
+    go false h = n
 
 -- ---- with code 0 the answer q is the one that was worked out, r, of finite numbers
 

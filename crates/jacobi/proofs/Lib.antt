@@ -1,5 +1,6 @@
 pub mod Negated
 pub mod Run
+pub mod Watched
 pub mod Moves
 pub mod Placed
 pub mod Sorted

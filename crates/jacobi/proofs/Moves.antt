@@ -3,7 +3,7 @@
 use Rattle.float.proofs.Words.{_≡_, refl, ap, _∙_, subst, subst⁻¹, Bool, true, List, ℕ, _*_, _<_, arith, length, Float}
 use Rattle.float.specs.Sign.{finite, allFinite}
 use Rattle.float.proofs.Choice.{chosen}
-use Rattle.float.proofs.Finite.{finite-together}
+use Rattle.float.proofs.Finite.{at-finite, finite-together}
 use Rattle.matrix.specs.Places.{at}
 use Rattle.matrix.specs.Square.{entryOf, exchanged, exchangeOf}
 use Rattle.matrix.proofs.Tables.{at-tabulate, tabulate-all, table-finite}
@@ -99,6 +99,13 @@ module _ {C : Type 0} {n : ℕ} {Follows : Permutation n → C → C → Type 0}
 module _ {C : Type 0} {n : ℕ} {Follows : Permutation n → C → C → Type 0} {x y : Ranked C} (m : Moved n Follows x y) where
   pub moved-finite : ((c : ℕ) → c < n → finite (at (x .values) c) ≡ true) → length (y .values) ≡ n → allFinite (y .values) ≡ true
   moved-finite h e = rw (← tabulate-all n (y .values) e) (table-finite n (at (y .values)) (each m (λ (v : Float). finite v ≡ true) h))
+
+  -- and where they were before, exactly
+  pub values-finite : length (x .values) ≡ n → length (y .values) ≡ n → allFinite (x .values) ≡ allFinite (y .values)
+  values-finite before after =
+      finite-together (x .values) (y .values) (λ e. moved-finite (λ c l. at-finite (x .values) e c (rw before l)) after)
+      (λ e. rw (← tabulate-all n (x .values) before)
+      (table-finite n (at (x .values)) (each-before m (λ (v : Float). finite v ≡ true) (λ c l. at-finite (y .values) e c (rw after l)))))
 
 -- ---- columns are finite after a move exactly where they were before
 

@@ -1,7 +1,6 @@
 -- The rotation chosen for a pair is the same, to the bit, for the pair negated: every test reads magnitudes or compares with zero, and theta is a quotient of
 -- two numbers that both change sign. The one thing that could tell the two apart is the sign of a zero. It never reaches theta: where the diagonal's difference
--- is zero
--- the 45 degree rotation is taken, since epsilon times the larger diagonal number, itself no less than epsilon, does not vanish.
+-- is zero the 45 degree rotation is taken, since epsilon times the larger diagonal number, itself no less than epsilon, does not vanish.
 use Rattle.float.proofs.Words.{_≡_, refl, sym, ap, _∙_, Bool, true, false, not, Bool·beq, cond, false≢true, ℕ, ℤ, Float, nan, inf, fin, Format, neg, add, sub}
 use Rattle.float.proofs.Words.{mul, lt, eq}
 use Rattle.float.specs.Choice.{pick}
@@ -11,6 +10,7 @@ use Rattle.float.proofs.Choice.{chosen}
 use Rattle.float.proofs.Negation.{Rel, flip, sub-rel, magnitude-rel, eq-rel, zero-rel, exact, mul-flip, div-flip}
 use Rattle.float.proofs.Zeros.{finite-of-eq, zero-level}
 use Rattle.jacobi.specs.Rotation.{largerOf, isGone, tinyDiagonal, levelDiagonal, thetaOf, tangentOf, noTurn, evenTurn, turnBy, rotationOf}
+use Rattle.jacobi.specs.Blind.{blindOf}
 use Rattle.jacobi.specs.declared.rotation.Rotation.{Rotation}
 
 -- ---- a difference that is zero is level
@@ -77,6 +77,9 @@ module _ (f : Format) {b : Bool} {p p' a a' q q' : Float} (P : Rel b p p') (A : 
 
   level-same : levelDiagonal f a q ≡ levelDiagonal f a' q'
   level-same = cc (magnitude-rel A, magnitude-rel Q, magnitude-rel (sub-rel f Q A))
+
+  pub blind-same : blindOf f p a q ≡ blindOf f p' a' q'
+  blind-same = cc (gone-same, tiny-same, eq-rel A Q)
 
   pub rotation-same : rotationOf f p a q ≡ rotationOf f p' a' q'
   unfolding rotationOf

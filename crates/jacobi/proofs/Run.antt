@@ -42,11 +42,12 @@ module _ {S : Type 0} (step : S → S) (done : S → Bool) where
   none-earlier : (s : S) (j : ℕ) → j < 0 → done (after step done j s) ≡ false
   none-earlier s j l = absurd (omega arith)
 
-  one-more : (n : ℕ) (s : S) → done s ≡ false → ((j : ℕ) → j < n → done (after step done j (step s)) ≡ false) → (j : ℕ) → j < suc n
-      → done (after step done j s) ≡ false
+  -- what a test says of the first state and of those behind it, it says of all
+  pub one-more : (test : S → Bool) (n : ℕ) (s : S) → test s ≡ false → ((j : ℕ) → j < n → test (after step done j (step s)) ≡ false)
+      → (j : ℕ) → j < suc n → test (after step done j s) ≡ false
   unfolding after
-  one-more n s e h zero l = e
-  one-more n s e h (suc j) l = h j (omega arith)
+  one-more test n s e h zero l = e
+  one-more test n s e h (suc j) l = h j (omega arith)
 
   also-ended : {k n : ℕ} {r : S} → (n ≡ k) ⊎ (done r ≡ true) → (suc n ≡ suc k) ⊎ (done r ≡ true)
   also-ended (inl e) = inl (ap suc e)
@@ -58,7 +59,7 @@ module _ {S : Type 0} (step : S → S) (done : S → Bool) where
   ran-from (suc k) true s e = record { within = omega arith; stands = refl; earlier = none-earlier s; ended = inr e }
   ran-from (suc k) false s e =
       let r = ran-from k (done (step s)) (step s) refl in
-      record { within = omega (arith, r .within); stands = r .stands; earlier = one-more _ s e (r .earlier); ended = also-ended (r .ended) }
+      record { within = omega (arith, r .within); stands = r .stands; earlier = one-more done _ s e (r .earlier); ended = also-ended (r .ended) }
 
   pub ran : (k : ℕ) (s : S) → (n : ℕ) × Ran step done k s (run step done k s) n
   unfolding run

@@ -17,7 +17,7 @@ pub struct Rotation {
     pub t: Real,
 }
 
-fn larger(a: Real, b: Real) -> Real
+pub(crate) fn larger(a: Real, b: Real) -> Real
     ensures { λ r. ⌜ r ≡ largerOf a b ⌝ }
 {
     if a > b { a } else { b }

@@ -4,12 +4,12 @@ use Rattle.float.proofs.Words.{div-lt-iff-lt-mul, div-eq-of-lt, mod-eq-of-lt, a
 use Rattle.float.proofs.Words.{ne-eqb}
 use Rattle.float.specs.Choice.{pick}
 use Rattle.float.specs.Sign.{finite, allFinite}
-use Rattle.float.proofs.Finite.{at-finite}
-use Rattle.float.proofs.Choice.{either, by-eqb}
+use Rattle.float.proofs.Finite.{at-finite, finite-neg}
+use Rattle.float.proofs.Choice.{either, chosen, by-eqb}
 use Rattle.float.proofs.Negation.{neg-twice}
 use Rattle.matrix.specs.Places.{at, squareIndex}
 use Rattle.matrix.specs.Square.{squareOf, entryOf, transposeOf, exchanged, exchangeOf, negateOf}
-use Rattle.matrix.proofs.Tables.{at-tabulate, tabulate-same, tabulate-all, table-finite}
+use Rattle.matrix.proofs.Tables.{at-tabulate, tabulate-same, tabulate-all, table-finite, tables-finite}
 use Rattle.matrix.proofs.Placing.{square-below}
 
 -- ---- tables of entries
@@ -55,6 +55,14 @@ module _ (n : ℕ) (xs : List Float) (full : length xs ≡ n * n) where
   entries-finite h =
       subst (λ (ys : List Float). allFinite ys ≡ true) (square-eta n xs full)
       (table-finite (n * n) (λ (i : ℕ). entryOf n xs (i % n) (i / n)) (λ i l. h (i % n) (i / n) (mod-lt i (size-above n i l)) (column-below n i l)))
+
+-- the sign of a column changes no number's being finite
+pub negate-finite : (n i : ℕ) (xs : List Float) → length xs ≡ n * n → allFinite (negateOf n i xs) ≡ allFinite xs
+negate-finite n i xs e =
+    tables-finite (n * n) (λ (k : ℕ). pick (eqb (k / n) i) (neg (entryOf n xs (k % n) (k / n))) (entryOf n xs (k % n) (k / n)))
+    (λ (k : ℕ). entryOf n xs (k % n) (k / n))
+    (λ k. let x = entryOf n xs (k % n) (k / n) in chosen (λ (v : Float). finite v ≡ finite x) (eqb (k / n) i) (neg x) x (finite-neg x) refl)
+    ∙ ap allFinite (square-eta n xs e)
 
 -- a move that gives back each entry gives back the list
 undone : (n : ℕ) (g : ℕ → ℕ → Float) (xs : List Float) → length xs ≡ n * n → ((r c : ℕ) → r < n → c < n → g r c ≡ entryOf n xs r c) → squareOf n g ≡ xs

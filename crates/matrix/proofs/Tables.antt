@@ -1,9 +1,9 @@
 -- A list of n numbers is the table of what stands at its places: by induction on n.
-use Rattle.float.proofs.Words.{[], _≡_, refl, ap, _∙_, true, List, _∷_, _++_, ℕ, zero, suc, _≤_, _<_, zero-add, le-of-suc-le-suc, arith, length, take, drop}
-use Rattle.float.proofs.Words.{take-all, sets, sets-eq, Float, Format}
+use Rattle.float.proofs.Words.{[], _≡_, refl, sym, ap, _∙_, true, List, _∷_, _++_, ℕ, zero, suc, _≤_, _<_, zero-add, le-of-suc-le-suc, arith, length, take}
+use Rattle.float.proofs.Words.{drop, take-all, sets, sets-eq, Float, Format, neg}
 use Rattle.float.specs.Sign.{finite, allFinite}
-use Rattle.float.proofs.Finite.{zero-finite}
-use Rattle.matrix.specs.Places.{zeros, at, tabulate}
+use Rattle.float.proofs.Finite.{finite-neg, zero-finite}
+use Rattle.matrix.specs.Places.{zeros, at, tabulate, negatedOf}
 
 pub length-tabulate : (n : ℕ) (g : ℕ → Float) → length (tabulate n g) ≡ n
 length-tabulate zero g = refl
@@ -47,6 +47,16 @@ pub table-finite : (n : ℕ) (g : ℕ → Float) → ((i : ℕ) → i < n → fi
 unfolding allFinite
 table-finite zero g h = refl
 table-finite (suc n) g h = rw (h 0 (omega arith), table-finite n (λ (i : ℕ). g (suc i)) (λ i l. h (suc i) (omega arith)))
+
+-- numbers that are finite together, place by place
+pub tables-finite : (n : ℕ) (g h : ℕ → Float) → ((i : ℕ) → finite (g i) ≡ finite (h i)) → allFinite (tabulate n g) ≡ allFinite (tabulate n h)
+unfolding allFinite
+tables-finite zero g h e = refl
+tables-finite (suc n) g h e = rw (e 0, tables-finite n (λ (i : ℕ). g (suc i)) (λ (i : ℕ). h (suc i)) (λ i. e (suc i)))
+
+pub negated-finite : (n : ℕ) (xs : List Float) → length xs ≡ n → allFinite xs ≡ allFinite (negatedOf n xs)
+negated-finite n xs e =
+    ap allFinite (sym (tabulate-all n xs e)) ∙ tables-finite n (at xs) (λ (i : ℕ). neg (at xs i)) (λ i. sym (finite-neg (at xs i)))
 
 pub zeros-finite : (f : Format) (n : ℕ) → allFinite (zeros f n) ≡ true
 unfolding allFinite

@@ -3,7 +3,7 @@ use mathlib.Core.List.{List, [], _∷_}
 use Prim.Native.Nat.{ℕ, zero, suc, _+_, _*_, _/_}
 use lib.Dec.{ltb}
 use lib.ListN.{getD, replicate}
-use lib.Ieee.{Float, nan, Format}
+use lib.Ieee.{Float, nan, Format, neg}
 use Rattle.float.specs.Choice.{pick}
 use Rattle.float.specs.Constants.{zeroF}
 
@@ -14,6 +14,10 @@ at xs i = getD xs i nan
 abbrev pub tabulate : ℕ → (ℕ → Float) → List Float
 tabulate zero g = []
 tabulate (suc n) g = g 0 ∷ tabulate n (λ (i : ℕ). g (suc i))
+
+-- each of n numbers negated
+abbrev pub negatedOf : ℕ → List Float → List Float
+negatedOf n xs = tabulate n (λ (i : ℕ). neg (at xs i))
 
 abbrev pub zeros : Format → ℕ → List Float
 zeros f n = replicate n (zeroF f)
