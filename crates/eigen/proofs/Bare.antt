@@ -7,14 +7,17 @@ use Rattle.float.proofs.Finite.{append-passes, append-fails}
 use Rattle.matrix.specs.Square.{exchangeOf}
 use Rattle.matrix.specs.declared.symmetric.Sym3.{Sym3}
 use Rattle.jacobi.specs.Order.{ascending}
+use Rattle.jacobi.specs.Blind.{Watched, sighted}
 use Rattle.jacobi.proofs.Run.{keeps}
 use Rattle.jacobi.proofs.Placed.{values-alone}
-use Rattle.eigen.specs.Eigen3x3.{State, settledOf, stepOf, runOf, startOf, lastOf, diagonal, rankedOf, answerOf, endOf, eigenOf}
-use Rattle.eigen.specs.EigVals.{BareState, bareStepOf, bareRunOf, alone, nothingSwapped, sort3Of, refusedValues, bareEndOf, eigvalsOf}
+use Rattle.eigen.specs.Eigen3x3.{State, settledOf, stepOf, runOf, startOf, lastOf, watchedOf, diagonal, rankedOf, answerOf, endOf}
+use Rattle.eigen.specs.EigVals.{BareState, bareStepOf, bareRunOf, bareWatchedOf, alone, nothingSwapped, sort3Of, refusedValues, bareEndOf, eigvalsOf}
 use Rattle.eigen.specs.Ordered.{diagonalAxes}
 use Rattle.eigen.specs.Bare.{withoutVectors, VectorsLost, SameButVectors}
 use Rattle.eigen.specs.declared.eigen3x3.Eigen3.{Eigen3}
 use Rattle.eigen.specs.declared.eigen3x3.EigVals3.{EigVals3}
+use Rattle.eigen.proofs.Rounds.{fullStep, fullDone, bareStep, bareDone}
+use Rattle.eigen.proofs.Watched.{endedOf, watched-ends, by-last}
 use Rattle.eigen.proofs.eigen3x3.eigen_jacobi.Reads as eigen-jacobi
 use Rattle.eigen.proofs.eigen3x3.eigvals_jacobi.Reads as eigvals-jacobi
 
@@ -28,6 +31,13 @@ unfolding runOf bareRunOf stepOf bareStepOf
 same-run f k s =
     keeps (stepOf f) (λ (s : State). settledOf f (s .matrix)) (bareStepOf f) (λ (s : BareState). settledOf f (s .matrix)) bared (λ s. refl) (λ s. refl) k s
 
+abbrev baredWatched : Watched State → Watched BareState
+baredWatched w = record { state = bared (w .state); blind = w .blind }
+
+pub same-watched : (f : Format) (k : ℕ) (w : Watched State) → baredWatched (watchedOf f k w) ≡ bareWatchedOf f k (baredWatched w)
+unfolding watchedOf bareWatchedOf stepOf bareStepOf
+same-watched f k w = keeps (fullStep f) (fullDone f) (bareStep f) (bareDone f) baredWatched (λ w. refl) (λ w. refl) k w
+
 -- ---- the order
 
 ranked-values : (s : State) → rankedOf s .values ≡ sort3Of (diagonal (s .matrix))
@@ -38,20 +48,24 @@ ranked-values s = values-alone 3 ascending (exchangeOf 3) nothingSwapped (diagon
 
 module _ (f : Format) (a : List Float) where
   -- the answer without vectors by the state with them
-  from-state : eigvalsOf f a ≡ judgedCall (refusedValues f) a (lastOf f a .matrix) (withoutVectors (answerOf f (lastOf f a)))
+  from-state : eigvalsOf f a ≡ judgedCall (refusedValues f) a (lastOf f a .matrix) (withoutVectors (answerOf f (endedOf f a)))
   unfolding eigvalsOf bareEndOf
-  from-state = ap (bareEndOf f a) (sym (same-run f 25 (startOf f a))) ∙ (rw (ranked-values (lastOf f a)))
+  from-state =
+      ap (bareEndOf f a) (sym (same-watched f 25 (sighted (startOf f a))) ∙ ap baredWatched (watched-ends f a))
+      ∙ (rw (ranked-values (lastOf f a)))
 
   by-tests : (x y z : Bool) → allFinite a ≡ x → allFinite (lastOf f a .matrix) ≡ y → allFinite (rankedOf (lastOf f a) .carried) ≡ z → SameButVectors f a
-  unfolding eigenOf endOf judged
-  by-tests false y z i m v = inl (rw (from-state, i))
-  by-tests true false z i m v = let n = append-fails (lastOf f a .matrix) (rankedOf (lastOf f a) .carried) m in inl (rw (from-state, i, m, n))
+  unfolding endOf judged
+  by-tests false y z i m v = inl (rw (by-last f a, from-state, i))
+  by-tests true false z i m v =
+      let n = append-fails (lastOf f a .matrix) (rankedOf (lastOf f a) .carried) m in
+      inl (rw (by-last f a, from-state, i, m, n))
   by-tests true true true i m v =
       let n = append-passes (lastOf f a .matrix) (rankedOf (lastOf f a) .carried) m in
-      inl (rw (from-state, i, m, n, v))
+      inl (rw (by-last f a, from-state, i, m, n, v))
   by-tests true true false i m v =
       let n = append-passes (lastOf f a .matrix) (rankedOf (lastOf f a) .carried) m in
-      inr (record { input = i; matrix = m; vectors = v }, rw (i, n, v), rw (from-state, i, m))
+      inr (record { input = i; matrix = m; vectors = v }, rw (by-last f a, i, n, v), rw (watched-ends f a, from-state, i, m))
 
   pub same-but-vectors : SameButVectors f a
   same-but-vectors = by-tests _ _ _ refl refl refl

@@ -9,9 +9,10 @@ use Rattle.jacobi.specs.Order.{Ranked, swapped, ascending}
 use Rattle.jacobi.proofs.Run.{run-keeps}
 use Rattle.jacobi.proofs.Moves.{moved-finite, ordered-keeps, ordered3-keeps}
 use Rattle.jacobi.proofs.Sorted.{below3}
-use Rattle.eigen.specs.Eigen3x3.{State, settledOf, nextMatrix, nextVectors, stepOf, runOf, startOf, lastOf, diagonal, rankedOf}
+use Rattle.eigen.specs.Eigen3x3.{State, settledOf, nextMatrix, nextVectors, stepOf, runOf, startOf, lastOf, watchedLastOf, diagonal, rankedOf}
 use Rattle.eigen.specs.EigVals.{BareState, bareLastOf, alone, nothingSwapped, sort3Of}
 use Rattle.eigen.specs.Eigen2x2.{notBelow, axesOf, solved2}
+use Rattle.eigen.proofs.Watched.{watched-ends}
 use Rattle.eigen.proofs.Bare.{same-run}
 use Rattle.eigen.proofs.Moved.{same-permutation, values-moved}
 
@@ -23,6 +24,9 @@ Filled s = (length (s .matrix) ≡ 6) × (length (s .vectors) ≡ 9)
 pub last-filled : (f : Format) (a : List Float) → length a ≡ 6 → Filled (lastOf f a)
 unfolding runOf stepOf nextMatrix nextVectors
 last-filled f a n = run-keeps (stepOf f) (λ (s : State). settledOf f (s .matrix)) Filled (λ s. (refl, refl)) 25 (startOf f a) (n, refl)
+
+pub watched-filled : (f : Format) (a : List Float) → length a ≡ 6 → Filled (watchedLastOf f a .state)
+watched-filled f a n = rw (watched-ends f a) (last-filled f a n)
 
 pub bare-filled : (f : Format) (a : List Float) → length a ≡ 6 → length (bareLastOf f a .matrix) ≡ 6
 bare-filled f a n = ap (λ (s : BareState). length (s .matrix)) (sym (same-run f 25 (startOf f a))) ∙ last-filled f a n .0

@@ -1,6 +1,8 @@
 pub mod Rounds
+pub mod Watched
 pub mod Answered
 pub mod Counted
+pub mod Marked
 pub mod Bare
 pub mod Moved
 pub mod Full
@@ -8,5 +10,6 @@ pub mod Settled
 pub mod Owed
 pub mod Rows
 pub mod Reversed
+pub mod Reversed2x2
 pub mod Ordered
 pub mod Unique

@@ -5,7 +5,7 @@ use mathlib.Core.Logic.{_⊎_}
 use mathlib.Core.List.{List}
 use lib.Ieee.{Float, Format}
 use Rattle.float.specs.Sign.{allFinite}
-use Rattle.eigen.specs.Eigen3x3.{lastOf, rankedOf, refusedEigen, answerOf, eigenOf}
+use Rattle.eigen.specs.Eigen3x3.{lastOf, watchedLastOf, rankedOf, refusedEigen, answerOf, eigenOf}
 use Rattle.eigen.specs.EigVals.{eigvalsOf}
 use Rattle.eigen.specs.declared.eigen3x3.Eigen3.{Eigen3}
 use Rattle.eigen.specs.declared.eigen3x3.EigVals3.{EigVals3}
@@ -23,4 +23,4 @@ pub record VectorsLost (f : Format) (a : List Float) : Type 0 where
 -- one without answers with what was worked out. So they are the same at each code but 7, and at 7 too if the matrix is what is not finite.
 abbrev pub SameButVectors : Format → List Float → Type 0
 SameButVectors f a = (withoutVectors (eigenOf f a) ≡ eigvalsOf f a)
-    ⊎ (VectorsLost f a × (eigenOf f a ≡ refusedEigen f 7) × (eigvalsOf f a ≡ withoutVectors (answerOf f (lastOf f a))))
+    ⊎ (VectorsLost f a × (eigenOf f a ≡ refusedEigen f 7) × (eigvalsOf f a ≡ withoutVectors (answerOf f (watchedLastOf f a))))

@@ -1,5 +1,5 @@
 -- The 3x3 call: states, the run of at most 25 rotations, and the answer. Definitions only.
-use mathlib.Core.Bool.{Bool, false}
+use mathlib.Core.Bool.{Bool, false, not, _&&_}
 use mathlib.Core.List.{List, [], _∷_, _++_}
 use Prim.Native.Nat.{ℕ}
 use lib.Ieee.{Float, Format, lt}
@@ -10,9 +10,10 @@ use Rattle.matrix.specs.Square.{mat3, identityOf, exchangeOf}
 use Rattle.matrix.specs.Symmetric.{sym3}
 use Rattle.jacobi.specs.Pairs.{turnedOf}
 use Rattle.jacobi.specs.Run.{run, nothingMade, oneMore}
+use Rattle.jacobi.specs.Blind.{Watched, watchedRun, sighted}
 use Rattle.jacobi.specs.Order.{Ranked, ordered3, ascending}
 use Rattle.jacobi.specs.declared.made.Made.{Made}
-use Rattle.eigen.specs.Pairs.{entry, offDiagOf, pairOf, chosenOf, appliedOf}
+use Rattle.eigen.specs.Pairs.{entry, offDiagOf, pairOf, chosenOf, blindAt, appliedOf}
 use Rattle.eigen.specs.declared.order.Sorted.{Sorted}
 use Rattle.eigen.specs.declared.eigen3x3.Working.{Working}
 use Rattle.eigen.specs.declared.eigen3x3.Eigen3.{Eigen3}
@@ -24,11 +25,12 @@ pub record State : Type 0 where
   pub vectors : List Float
   pub made : Made
 
-abbrev pub working : State → Working
-working s = record { a = sym3 (s .matrix); v = mat3 (s .vectors); made = s .made }
+-- and whether a rotation made so far was blind
+abbrev pub working : Watched State → Working
+working w = record { a = sym3 (w .state .matrix); v = mat3 (w .state .vectors); made = w .state .made; blind = w .blind }
 
-abbrev pub ofWorking : Working → State
-ofWorking w = record { matrix = w .a .«data»; vectors = w .v .«data»; made = w .made }
+abbrev pub ofWorking : Working → Watched State
+ofWorking w = record { state = record { matrix = w .a .«data»; vectors = w .v .«data»; made = w .made }; blind = w .blind }
 
 -- ---- the test: the largest magnitude beside the diagonal is strictly under the limit
 
@@ -57,6 +59,13 @@ startOf f a = record { matrix = a; vectors = identityOf f 3; made = nothingMade 
 abbrev pub lastOf : Format → List Float → State
 lastOf f a = runOf f 25 (startOf f a)
 
+-- the same run, watched
+unfoldable pub watchedOf : Format → ℕ → Watched State → Watched State
+watchedOf f k w = watchedRun (stepOf f) (λ (s : State). settledOf f (s .matrix)) (λ (s : State). blindAt f (s .matrix)) k w
+
+abbrev pub watchedLastOf : Format → List Float → Watched State
+watchedLastOf f a = watchedOf f 25 (sighted (startOf f a))
+
 -- ---- the diagonal in order, with its columns
 
 abbrev pub diagonal : List Float → List Float
@@ -84,19 +93,23 @@ refusedEigen f k = record { code = k; made = nothingMade; settled = false; value
 abbrev pub numbersOf : State → List Float
 numbersOf s = s .matrix ++ rankedOf s .carried
 
-abbrev pub answerOf : Format → State → Eigen3
-answerOf f s = record {
+-- the mark: no rotation was blind, and the last matrix is settled
+abbrev pub markedOf : Format → Bool → List Float → Bool
+markedOf f blind a = not blind && settledOf f a
+
+abbrev pub answerOf : Format → Watched State → Eigen3
+answerOf f w = record {
   code = 0;
-  made = s .made;
-  settled = settledOf f (s .matrix);
-  values = rankedOf s .values;
-  vectors = mat3 (rankedOf s .carried);
-  worked = sym3 (s .matrix);
+  made = w .state .made;
+  settled = markedOf f (w .blind) (w .state .matrix);
+  values = rankedOf (w .state) .values;
+  vectors = mat3 (rankedOf (w .state) .carried);
+  worked = sym3 (w .state .matrix);
 }
 
--- the answer to a, whose last state is s
-unfoldable pub endOf : Format → List Float → State → Eigen3
-endOf f a s = judgedCall (refusedEigen f) a (numbersOf s) (answerOf f s)
+-- the answer to a, whose run ended in w
+unfoldable pub endOf : Format → List Float → Watched State → Eigen3
+endOf f a w = judgedCall (refusedEigen f) a (numbersOf (w .state)) (answerOf f w)
 
 unfoldable pub eigenOf : Format → List Float → Eigen3
-eigenOf f a = endOf f a (lastOf f a)
+eigenOf f a = endOf f a (watchedLastOf f a)

@@ -3,7 +3,9 @@ pub mod Eigen3x3
 pub mod Eigen2x2
 pub mod EigVals
 pub mod Counted
+pub mod Marked
 pub mod Bare
 pub mod Ordered
 pub mod Owed
 pub mod Reversed
+pub mod Reversed2x2

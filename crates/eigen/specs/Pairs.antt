@@ -1,4 +1,5 @@
 -- What a rotation of one pair makes of a symmetric 3x3, and which pair is rotated. Definitions only.
+use mathlib.Core.Bool.{Bool}
 use mathlib.Core.List.{List}
 use Prim.Native.Nat.{ℕ}
 use lib.Ieee.{Float, Format, add, sub, mul, div}
@@ -7,11 +8,13 @@ use Rattle.float.specs.Sign.{magnitudeOf}
 use Rattle.matrix.specs.Places.{at, packedIndex}
 use Rattle.matrix.specs.Symmetric.{sym3, packedOf}
 use Rattle.jacobi.specs.Rotation.{rotationOf}
+use Rattle.jacobi.specs.Blind.{blindOf}
 use Rattle.jacobi.specs.Pairs.{Place, atP, atQ, atK, placeIn, indexP, indexQ, indexK, largestOf}
 use Rattle.jacobi.specs.declared.rotation.Rotation.{Rotation}
 use Rattle.jacobi.specs.declared.pairs.Pair.{Pair}
 use Rattle.jacobi.specs.declared.pairs.Pair.the-variants.{P12, P13, P23}
 use Rattle.jacobi.specs.declared.pairs.OffDiag.{OffDiag}
+use Rattle.eigen.specs.declared.pairs.Elements.{Elements}
 use Rattle.eigen.specs.declared.pairs.Turned.{Turned}
 
 -- the number at (i, j) of the packed matrix
@@ -28,6 +31,9 @@ app x a = entry a (indexP x) (indexP x)
 abbrev pub aqq : Pair → List Float → Float
 aqq x a = entry a (indexQ x) (indexQ x)
 
+abbrev pub elementsOf : Pair → List Float → Elements
+elementsOf x a = record { apq = apq x a; app = app x a; aqq = aqq x a }
+
 -- ---- the largest pair by the magnitude of its number beside the diagonal
 
 abbrev pub offDiagOf : List Float → OffDiag
@@ -43,6 +49,13 @@ turnOf f x a = rotationOf f (apq x a) (app x a) (aqq x a)
 
 abbrev pub chosenOf : Format → List Float → Rotation
 chosenOf f a = turnOf f (pairOf a) a
+
+-- whether it is blind
+abbrev pub blindPair : Format → Pair → List Float → Bool
+blindPair f x a = blindOf f (apq x a) (app x a) (aqq x a)
+
+unfoldable pub blindAt : Format → List Float → Bool
+blindAt f a = blindPair f (pairOf a) a
 
 -- ---- the matrix after a rotation of the pair
 
@@ -78,6 +91,6 @@ module _ (f : Format) (x : Pair) (r : Rotation) (a : List Float) where
   abbrev pub appliedOf : List Float
   appliedOf = packedOf (λ (i j : ℕ). appliedEntry (placeIn x i) (placeIn x j))
 
--- the matrix after its rotation, and the rotation itself
+-- the matrix after its rotation, the rotation itself, and whether it is blind
 abbrev pub turnedPair : Format → Pair → List Float → Turned
-turnedPair f x a = record { a = sym3 (appliedOf f x (turnOf f x a) a); r = turnOf f x a }
+turnedPair f x a = record { a = sym3 (appliedOf f x (turnOf f x a) a); r = turnOf f x a; blind = blindPair f x a }

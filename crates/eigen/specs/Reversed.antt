@@ -4,13 +4,13 @@ use mathlib.Core.Bool.{true, false}
 use mathlib.Core.List.{List}
 use Prim.Native.Nat.{ℕ}
 use lib.Ieee.{Float, neg, eq}
-use Rattle.matrix.specs.Places.{at, tabulate}
+use Rattle.matrix.specs.Places.{at, tabulate, negatedOf}
 use Rattle.matrix.specs.Square.{entryOf}
 use Rattle.eigen.specs.declared.eigen3x3.Eigen3.{Eigen3}
 
 -- each number of the packed matrix negated
 abbrev pub negated : List Float → List Float
-negated a = tabulate 6 (λ (i : ℕ). neg (at a i))
+negated a = negatedOf 6 a
 
 -- compared as numbers, so that both zeros are equal: x is -y
 abbrev pub Opposite : Float → Float → Type 0

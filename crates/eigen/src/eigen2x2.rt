@@ -2,6 +2,7 @@
 use float::sign::all_finite;
 use float::sign::both_finite;
 use float::width::Real;
+use jacobi::blind::is_blind;
 use jacobi::rotation::Rotation;
 use jacobi::rotation::compute_jacobi_rotation;
 use matrix::codes::ANSWER_NOT_FINITE;
@@ -12,7 +13,7 @@ use matrix::symmetric::Sym2;
 ghost use mathlib.Core.Path.{_≡_};
 ghost use Rattle.float.specs.Width.{F};
 ghost use Rattle.float.specs.Judged.{judged};
-ghost use Rattle.eigen.specs.Eigen2x2.{axes2, ofAxes2, axesOf, solved2, refused2, numbers2Of, answer2Of, eigen2Of};
+ghost use Rattle.eigen.specs.Eigen2x2.{axes2, ofAxes2, blind2Of, axesOf, solved2, refused2, numbers2Of, answer2Of, eigen2Of};
 ghost use Rattle.eigen.specs.EigVals.{refusedValues2, values2Of, eigvals2Of};
 
 // Two values and their vectors.
@@ -70,6 +71,14 @@ fn eig2(a: Sym2) -> Axes2
     axes(r, app - t_apq, aqq + t_apq)
 }
 
+// Whether that rotation is blind.
+fn is_turn_blind(a: Sym2) -> bool
+    ensures { λ r. ⌜ r ≡ blind2Of F (a .«data») ⌝ }
+{
+    let d = a.data;
+    is_blind(d[1], d[0], d[2])
+}
+
 fn refused(code: u8) -> Eigen2
     ensures { λ r. ⌜ r ≡ refused2 F code ⌝ }
 {
@@ -82,8 +91,8 @@ fn refused(code: u8) -> Eigen2
 }
 
 // The answer, if all its numbers are finite.
-fn judge(x: Axes2) -> Eigen2
-    ensures { λ r. ⌜ r ≡ judged (refused2 F) 7 (numbers2Of (ofAxes2 x)) (answer2Of (ofAxes2 x)) ⌝ }
+fn judge(x: Axes2, blind: bool) -> Eigen2
+    ensures { λ r. ⌜ r ≡ judged (refused2 F) 7 (numbers2Of (ofAxes2 x)) (answer2Of blind (ofAxes2 x)) ⌝ }
 {
     let values = x.values;
     let vectors = x.vectors;
@@ -91,7 +100,7 @@ fn judge(x: Axes2) -> Eigen2
     if both_finite(&values, &v) {
         return Eigen2 {
             code: DONE,
-            settled: true,
+            settled: !blind,
             values,
             vectors,
         };
@@ -105,7 +114,7 @@ pub fn eigen(a: Sym2) -> Eigen2
 {
     let d = a.data;
     if all_finite(&d) {
-        return judge(eig2(a));
+        return judge(eig2(a), is_turn_blind(a));
     }
     refused(INPUT_NOT_FINITE)
 }
@@ -120,13 +129,13 @@ fn refused_values(code: u8) -> EigVals2
     }
 }
 
-fn judge_values(values: [Real; 2]) -> EigVals2
-    ensures { λ r. ⌜ r ≡ judged (refusedValues2 F) 7 values (values2Of values) ⌝ }
+fn judge_values(values: [Real; 2], blind: bool) -> EigVals2
+    ensures { λ r. ⌜ r ≡ judged (refusedValues2 F) 7 values (values2Of blind values) ⌝ }
 {
     if all_finite(&values) {
         return EigVals2 {
             code: DONE,
-            settled: true,
+            settled: !blind,
             values,
         };
     }
@@ -141,7 +150,7 @@ pub fn eigvals(a: Sym2) -> EigVals2
     if all_finite(&d) {
         let x = eig2(a);
         let values = x.values;
-        return judge_values(values);
+        return judge_values(values, is_turn_blind(a));
     }
     refused_values(INPUT_NOT_FINITE)
 }

@@ -21,20 +21,22 @@ ghost use lib.Ieee.{lt};
 ghost use Rattle.float.specs.Width.{F};
 ghost use Rattle.float.specs.Constants.{limitF};
 ghost use Rattle.float.specs.Judged.{judged};
-ghost use Rattle.eigen.specs.Eigen3x3.{working, ofWorking, settledOf, lastOf, sorted, rankedOf, refusedEigen, numbersOf, answerOf, eigenOf};
-ghost use Rattle.eigen.specs.EigVals.{bare, ofBare, bareLastOf, refusedValues, valuesOf, eigvalsOf};
+ghost use Rattle.eigen.specs.Eigen3x3.{working, ofWorking, watchedLastOf, sorted, rankedOf, refusedEigen, numbersOf, markedOf, answerOf, eigenOf};
+ghost use Rattle.eigen.specs.EigVals.{bare, ofBare, bareWatchedLastOf, refusedValues, valuesOf, eigvalsOf};
 
-// A working state.
+// A working state, and whether a rotation made so far was blind.
 pub struct Working {
     pub a: Sym3,
     pub v: Mat3,
     pub made: Made,
+    pub blind: bool,
 }
 
-// A working state without vectors.
+// The same without vectors.
 pub struct Bare {
     pub a: Sym3,
     pub made: Made,
+    pub blind: bool,
 }
 
 pub struct Eigen3 {
@@ -61,10 +63,13 @@ fn under_limit(largest: OffDiag) -> bool
     largest.size < LIMIT
 }
 
-// Whether all that lies beside the diagonal is strictly under 2^-44.
-fn is_settled(a: Sym3) -> bool
-    ensures { λ r. ⌜ r ≡ settledOf F (a .«data») ⌝ }
+// The mark: no rotation was blind, and all that lies beside the diagonal is strictly under 2^-44.
+fn is_settled(blind: bool, a: Sym3) -> bool
+    ensures { λ r. ⌜ r ≡ markedOf F blind (a .«data») ⌝ }
 {
+    if blind {
+        return false;
+    }
     under_limit(find_largest_off_diag(a))
 }
 
@@ -73,15 +78,21 @@ const MOST: u8 = 25;
 
 // The run, with vectors (lines 210 to 236).
 fn work(a: Sym3) -> Working
-    ensures { λ w. ⌜ w ≡ working (lastOf F (a .«data»)) ⌝ }
+    ensures { λ w. ⌜ w ≡ working (watchedLastOf F (a .«data»)) ⌝ }
 {
     let mut b = a;
     let mut v = Mat3::zeros().set_identity();
     let mut made = Made { count: 0 };
+    let mut blind = false;
     while made.count < MOST {
         let largest = find_largest_off_diag(b);
         if under_limit(largest) {
-            return Working { a: b, v, made };
+            return Working {
+                a: b,
+                v,
+                made,
+                blind,
+            };
         }
         let p = largest.pair;
         let t = rotate_pair(b, p);
@@ -91,20 +102,27 @@ fn work(a: Sym3) -> Working
         made = Made {
             count: made.count + 1,
         };
+        blind = blind | t.blind;
     }
-    Working { a: b, v, made }
+    Working {
+        a: b,
+        v,
+        made,
+        blind,
+    }
 }
 
 // The same run without vectors.
 fn work_values(a: Sym3) -> Bare
-    ensures { λ w. ⌜ w ≡ bare (bareLastOf F (a .«data»)) ⌝ }
+    ensures { λ w. ⌜ w ≡ bare (bareWatchedLastOf F (a .«data»)) ⌝ }
 {
     let mut b = a;
     let mut made = Made { count: 0 };
+    let mut blind = false;
     while made.count < MOST {
         let largest = find_largest_off_diag(b);
         if under_limit(largest) {
-            return Bare { a: b, made };
+            return Bare { a: b, made, blind };
         }
         let p = largest.pair;
         let t = rotate_pair(b, p);
@@ -112,8 +130,9 @@ fn work_values(a: Sym3) -> Bare
         made = Made {
             count: made.count + 1,
         };
+        blind = blind | t.blind;
     }
-    Bare { a: b, made }
+    Bare { a: b, made, blind }
 }
 
 fn refused(code: u8) -> Eigen3
@@ -131,7 +150,7 @@ fn refused(code: u8) -> Eigen3
 
 // The diagonal in order, with its columns (lines 238 to 241).
 fn rank(w: Working) -> Sorted
-    ensures { λ r. ⌜ r ≡ sorted (rankedOf (ofWorking w)) ⌝ }
+    ensures { λ r. ⌜ r ≡ sorted (rankedOf (ofWorking w .state)) ⌝ }
 {
     let a = w.a;
     let v = w.v;
@@ -144,7 +163,7 @@ fn rank(w: Working) -> Sorted
 
 // The answer, if all its numbers are finite. The values are numbers of the matrix.
 fn judge(w: Working) -> Eigen3
-    ensures { λ r. ⌜ r ≡ judged (refusedEigen F) 7 (numbersOf (ofWorking w)) (answerOf F (ofWorking w)) ⌝ }
+    ensures { λ r. ⌜ r ≡ judged (refusedEigen F) 7 (numbersOf (ofWorking w .state)) (answerOf F (ofWorking w)) ⌝ }
 {
     let x = rank(w);
     let values = x.values;
@@ -154,7 +173,7 @@ fn judge(w: Working) -> Eigen3
     let d = a.data;
     if both_finite(&d, &v) {
         let made = w.made;
-        let settled = is_settled(a);
+        let settled = is_settled(w.blind, a);
         return Eigen3 {
             code: DONE,
             made,
@@ -192,7 +211,7 @@ fn refused_values(code: u8) -> EigVals3
 
 // The diagonal in order alone (lines 238 to 243), if all numbers of the matrix are finite.
 fn judge_values(w: Bare) -> EigVals3
-    ensures { λ r. ⌜ r ≡ judged (refusedValues F) 7 (ofBare w .matrix) (valuesOf F (ofBare w)) ⌝ }
+    ensures { λ r. ⌜ r ≡ judged (refusedValues F) 7 (ofBare w .state .matrix) (valuesOf F (ofBare w)) ⌝ }
 {
     let worked = w.a;
     let d = worked.data;
@@ -205,7 +224,7 @@ fn judge_values(w: Bare) -> EigVals3
         return EigVals3 {
             code: DONE,
             made,
-            settled: is_settled(worked),
+            settled: is_settled(w.blind, worked),
             values,
             worked,
         };

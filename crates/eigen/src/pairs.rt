@@ -1,5 +1,7 @@
 // The largest pair of a symmetric 3x3, and what a rotation of one makes of the matrix and the vectors. Real is f64 (float::width).
 use float::sign::magnitude;
+use float::width::Real;
+use jacobi::blind::is_blind;
 use jacobi::pairs::OffDiag;
 use jacobi::pairs::Pair;
 use jacobi::pairs::largest;
@@ -14,7 +16,7 @@ ghost use Rattle.matrix.specs.Square.{mat3};
 ghost use Rattle.matrix.specs.Symmetric.{sym3};
 ghost use Rattle.jacobi.specs.Pairs.{turnedOf};
 ghost use Rattle.jacobi.specs.declared.pairs.Pair.the-variants.{P12, P13, P23};
-ghost use Rattle.eigen.specs.Pairs.{offDiagOf, turnOf, turnedPair, appliedOf};
+ghost use Rattle.eigen.specs.Pairs.{elementsOf, offDiagOf, turnedPair, appliedOf};
 
 // The largest of the three, the first on ties (dense3x3/eigen.rs, lines 247 to 273).
 pub fn find_largest_off_diag(a: Sym3) -> OffDiag
@@ -27,21 +29,37 @@ pub fn find_largest_off_diag(a: Sym3) -> OffDiag
     largest(magnitude(a12), magnitude(a13), magnitude(a23))
 }
 
-// The rotation of a pair (lines 276 to 290).
-fn rotation_of(a: Sym3, p: Pair) -> Rotation
-    ensures { λ r. ⌜ r ≡ turnOf F p (a .«data») ⌝ }
+// Of a pair: the number beside the diagonal, and the two on it.
+struct Elements {
+    apq: Real,
+    app: Real,
+    aqq: Real,
+}
+
+// The three numbers that the rotation of a pair is chosen by (lines 276 to 290).
+fn get_rotation_elements(a: Sym3, p: Pair) -> Elements
+    ensures { λ n. ⌜ n ≡ elementsOf p (a .«data») ⌝ }
 {
     let d = a.data;
     let a11 = d[0];
-    let a12 = d[1];
     let a22 = d[2];
-    let a13 = d[3];
-    let a23 = d[4];
     let a33 = d[5];
     match p {
-        Pair::P12 => compute_jacobi_rotation(a12, a11, a22),
-        Pair::P13 => compute_jacobi_rotation(a13, a11, a33),
-        Pair::P23 => compute_jacobi_rotation(a23, a22, a33),
+        Pair::P12 => Elements {
+            apq: d[1],
+            app: a11,
+            aqq: a22,
+        },
+        Pair::P13 => Elements {
+            apq: d[3],
+            app: a11,
+            aqq: a33,
+        },
+        Pair::P23 => Elements {
+            apq: d[4],
+            app: a22,
+            aqq: a33,
+        },
     }
 }
 
@@ -134,19 +152,22 @@ pub fn apply_rotation(a: Sym3, p: Pair, r: Rotation) -> Sym3
     }
 }
 
-// The matrix after a rotation, and the rotation.
+// The matrix after a rotation, the rotation, and whether it was blind.
 pub struct Turned {
     pub a: Sym3,
     pub r: Rotation,
+    pub blind: bool,
 }
 
 // One step of the matrix: the rotation of the pair is chosen and applied (lines 226 to 230).
 pub(crate) fn rotate_pair(a: Sym3, p: Pair) -> Turned
     ensures { λ w. ⌜ w ≡ turnedPair F p (a .«data») ⌝ }
 {
-    let r = rotation_of(a, p);
+    let n = get_rotation_elements(a, p);
+    let r = compute_jacobi_rotation(n.apq, n.app, n.aqq);
     let b = apply_rotation(a, p, r);
-    Turned { a: b, r }
+    let blind = is_blind(n.apq, n.app, n.aqq);
+    Turned { a: b, r, blind }
 }
 
 // The vectors after a rotation of the pair (lines 369 to 382).

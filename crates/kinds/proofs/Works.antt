@@ -1,6 +1,6 @@
 -- The answer of every kind: its sizes, only a code and a pivot's number where the code is not 0, its count and its mark, and no code 5 over finite numbers.
 -- Each kernel owes this of its answer.
-use Rattle.float.proofs.Words.{_≡_, refl, sym, ap, _∙_, subst⁻¹, Bool, true, false, true≢false, ℕ, arith, eqb, length, Format, ne-eqb}
+use Rattle.float.proofs.Words.{_≡_, refl, sym, ap, _∙_, subst⁻¹, Bool, true, false, ℕ, _≤_, arith, eqb, length, Format, ne-eqb}
 use Rattle.float.specs.Sign.{allFinite}
 use Rattle.float.proofs.Choice.{chosen, by-eqb}
 use Rattle.float.proofs.Finite.{both-true, append-passes}
@@ -8,18 +8,19 @@ use Rattle.matrix.specs.Places.{zeros}
 use Rattle.matrix.proofs.Owed.{not-five}
 use Rattle.cholesky.specs.Factor.{FactorAnswer}
 use Rattle.cholesky.specs.Pivots.{Stopped}
+use Rattle.cholesky.specs.Solve.{factorAndSolve2Of, factorAndSolve3Of}
 use Rattle.cholesky.proofs.Rows.{factor2-unstopped, factor3-unstopped, solved2-unstopped, solved3-unstopped}
 use Rattle.cholesky.proofs.Owed.{factor2-owed, factor3-owed, solved2-owed, solved3-owed}
-use Rattle.eigen.proofs.Answered as eigen
+use Rattle.eigen.specs.Eigen2x2.{eigen2Of}
+use Rattle.eigen.specs.Eigen3x3.{eigenOf}
 use Rattle.eigen.proofs.Owed.{eigen2-owed, eigen3-owed}
-use Rattle.eigen.specs.declared.eigen2x2.Eigen2.{Eigen2}
 use Rattle.eigen.specs.declared.eigen3x3.Eigen3.{Eigen3}
-use Rattle.svd.proofs.Answered as svd
+use Rattle.svd.specs.Svd2x2.{svd2Of}
+use Rattle.svd.specs.Svd3x3.{svdOf}
 use Rattle.svd.proofs.Owed.{svd2-owed, svd3-owed}
-use Rattle.svd.specs.declared.svd2x2.Svd2.{Svd2}
 use Rattle.svd.specs.declared.svd3x3.Svd3.{Svd3}
 use Rattle.kinds.specs.Table.{kindNumbered}
-use Rattle.kinds.specs.Work.{firstOf, markOf, doneMark, refusedKind, fromEigen2, fromEigen3, fromSvd2, fromSvd3, fromFactor, fromSolved, usedFinite}
+use Rattle.kinds.specs.Work.{firstOf, markOf, refusedKind, fromEigen2, fromEigen3, fromSvd2, fromSvd3, fromFactor, fromSolved, usedFinite}
 use Rattle.kinds.specs.Work.{answeredBy, workOf}
 use Rattle.kinds.specs.declared.table.Kind.{Kind}
 use Rattle.kinds.specs.declared.work.Asked.{Asked}
@@ -102,27 +103,30 @@ work-uncounted f a =
     (λ n _. solved3-unstopped f (firstOf 6 nine) (firstOf 3 three) n)
     (a .kind)
 
--- ---- with code 0 byte 7 is 1, but for a kind that counts rotations, whose mark is that of its run
+-- ---- byte 7 is at most 1
 
-abbrev pub Marked : Bool → Worked → Type 0
-Marked counts w = w .code ≡ 0 → counts ≡ false → w .settled ≡ 1
+mark-most : (b : Bool) → markOf b ≤ 1
+mark-most true = omega arith
+mark-most false = omega arith
 
-factor-marked : (f : Format) (s : ℕ) (r : FactorAnswer) → Marked false (fromFactor f s r)
+factor-mark : (f : Format) (s : ℕ) (r : FactorAnswer) → fromFactor f s r .settled ≤ 1
 unfolding fromFactor
-factor-marked f s r = by-eqb (Marked false) (r .code) 0 _ _ (λ _ _ _. refl) (λ n c _. absurd (n c))
+factor-mark f s r = chosen (λ (w : Worked). w .settled ≤ 1) (eqb (r .code) 0) _ _ (omega arith) (omega arith)
 
-pub work-marked : (f : Format) (a : Asked) → Marked (kindNumbered (a .kind) .counts) (workOf f a)
+pub work-mark : (f : Format) (a : Asked) → workOf f a .settled ≤ 1
 unfolding answeredBy
-work-marked f a =
-    each-kind (λ (k : Kind). Marked (k .counts) (answeredBy f (k .kernel) a)) (λ c _. absurd (omega arith))
-    (λ c _. ap (λ (r : Eigen2). markOf (r .settled)) (eigen.answered2 f (firstOf 3 (a .nine)) c .answer))
-    (λ _ q. absurd (true≢false q))
-    (λ c _. ap (λ (r : Svd2). markOf (r .settled)) (svd.answered2 f (firstOf 4 (a .nine)) c .answer))
-    (λ _ q. absurd (true≢false q))
-    (factor-marked f 3 _)
-    (factor-marked f 6 _)
-    (λ c _. ap doneMark c)
-    (λ c _. ap doneMark c)
+work-mark f a =
+    let nine = a .nine in
+    let three = a .three in
+    each-kind (λ (k : Kind). answeredBy f (k .kernel) a .settled ≤ 1) (omega arith)
+    (mark-most (eigen2Of f (firstOf 3 nine) .settled))
+    (mark-most (eigenOf f (firstOf 6 nine) .settled))
+    (mark-most (svd2Of f (firstOf 4 nine) .settled))
+    (mark-most (svdOf f (firstOf 9 nine) .settled))
+    (factor-mark f 3 _)
+    (factor-mark f 6 _)
+    (mark-most (eqb (factorAndSolve2Of f (firstOf 3 nine) (firstOf 2 three) .code) 0))
+    (mark-most (eqb (factorAndSolve3Of f (firstOf 6 nine) (firstOf 3 three) .code) 0))
     (a .kind)
 
 -- ---- over finite numbers: not 5

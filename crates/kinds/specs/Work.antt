@@ -40,7 +40,7 @@ abbrev pub markOf : Bool → ℕ
 markOf true = 1
 markOf false = 0
 
--- the mark of a kind that makes no run of rotations: 1 with code 0
+-- the mark of a kind that makes no rotation: 1 with code 0
 abbrev pub doneMark : ℕ → ℕ
 doneMark code = markOf (eqb code 0)
 

@@ -1,6 +1,6 @@
 -- Every answer has a head that a tally knows: its code is one of the rows', and with code 0 its kind is known, its mark is 1 or 0, and its count is that of a
 -- run, at most 25, or 0.
-use Rattle.float.proofs.Words.{_≡_, refl, sym, ap, _∙_, subst, Bool, true, false, not, _&&_, true≢false, false≢true, List, [], ℕ, _≤_, arith, zero, suc}
+use Rattle.float.proofs.Words.{_≡_, refl, sym, ap, _∙_, subst, true, false, not, _&&_, true≢false, false≢true, List, [], ℕ, _≤_, arith, zero, suc}
 use Rattle.float.proofs.Words.{_+_, _*_, mul-suc, zero-div, eqb, length, getD, take}
 use Rattle.float.proofs.Words.{replicate, length-take, length-drop, length-take-le, Format, eq-eqb, ne-eqb, le-leb}
 use native.Mathlib.Nat.{mul-mod-right}
@@ -12,17 +12,15 @@ use Rattle.float.specs.Sign.{allFinite}
 use Rattle.float.proofs.Choice.{chosen, so-or-not, by-test, by-eqb, whether}
 use Rattle.cholesky.specs.Pivots.{oneAtMostZero, oneNan, Stopped}
 use Rattle.cholesky.proofs.Stops.{unstopped}
-use Rattle.eigen.specs.Eigen3x3.{eigenOf}
 use Rattle.eigen.proofs.Counted as eigen
-use Rattle.svd.specs.Svd3x3.{svdOf}
 use Rattle.svd.proofs.Counted as svd
 use Rattle.kinds.specs.Table.{kindNumbered, knownKind}
-use Rattle.kinds.specs.Work.{firstOf, markOf, refusedKind, usedFinite, answeredBy, workOf}
+use Rattle.kinds.specs.Work.{firstOf, refusedKind, usedFinite, answeredBy, workOf}
 use Rattle.kinds.specs.declared.table.Kind.{Kind}
 use Rattle.kinds.specs.declared.work.Asked.{Asked}
 use Rattle.kinds.specs.declared.work.Worked.{Worked}
 use Rattle.kinds.proofs.Rows.{each-kind}
-use Rattle.kinds.proofs.Works.{work-uncounted, work-marked}
+use Rattle.kinds.proofs.Works.{work-uncounted, work-mark}
 use Rattle.record.specs.Layout.{eventBytes, requestSize, answerSize}
 use Rattle.record.specs.Request.{kindOf, askedOf, reservedZero, unusedZero, formOf, judgedOf}
 use Rattle.record.specs.Answer.{recordOf, wrongSizeOf, answeredOf, recordStepOf}
@@ -45,26 +43,23 @@ use Rattle.promises.proofs.Codes.{judged-code}
 
 -- ---- a kind's answer with code 0
 
-mark-known : (b : Bool) → among (markOf b) marks ≡ true
-mark-known true = refl
-mark-known false = refl
-
--- the mark and the count
-abbrev Made : ℕ → Worked → Type 0
-Made most w = (among (w .settled) marks ≡ true) × (w .count ≤ most)
+mark-known : (m : ℕ) → m ≤ 1 → among m marks ≡ true
+mark-known zero h = refl
+mark-known (suc zero) h = refl
+mark-known (suc (suc m)) h = absurd (omega arith)
 
 uncounted : {X : Type 0} → false ≡ true → X
 uncounted q = absurd (false≢true q)
 
 -- of a run
-work-turned : (f : Format) (a : Asked) → kindNumbered (a .kind) .counts ≡ true → workOf f a .code ≡ 0 → Made mostTurns (workOf f a)
+work-turned : (f : Format) (a : Asked) → kindNumbered (a .kind) .counts ≡ true → workOf f a .code ≡ 0 → workOf f a .count ≤ mostTurns
 unfolding answeredBy
 work-turned f a =
-    each-kind (λ (k : Kind). k .counts ≡ true → answeredBy f (k .kernel) a .code ≡ 0 → Made mostTurns (answeredBy f (k .kernel) a)) uncounted
+    each-kind (λ (k : Kind). k .counts ≡ true → answeredBy f (k .kernel) a .code ≡ 0 → answeredBy f (k .kernel) a .count ≤ mostTurns) uncounted
     uncounted
-    (λ _ c. (mark-known (eigenOf f (firstOf 6 (a .nine)) .settled), eigen.counted f (firstOf 6 (a .nine)) c .ran .within))
+    (λ _ c. eigen.counted f (firstOf 6 (a .nine)) c .ran .within)
     uncounted
-    (λ _ c. (mark-known (svdOf f (firstOf 9 (a .nine)) .settled), svd.counted f (firstOf 9 (a .nine)) c .ran .within))
+    (λ _ c. svd.counted f (firstOf 9 (a .nine)) c .ran .within)
     uncounted
     uncounted
     uncounted
@@ -72,15 +67,20 @@ work-turned f a =
     (a .kind)
 
 -- of a kind that makes none
-work-unturned : (f : Format) (a : Asked) → kindNumbered (a .kind) .counts ≡ false → workOf f a .code ≡ 0 → Made 0 (workOf f a)
+work-unturned : (f : Format) (a : Asked) → kindNumbered (a .kind) .counts ≡ false → workOf f a .code ≡ 0 → workOf f a .count ≤ 0
 work-unturned f a q c =
-    let mark = work-marked f a c q in
     let count = work-uncounted f a (λ e. unstopped 0 refl (subst Stopped c e)) (λ e. true≢false (sym (e .1) ∙ q)) in
-    (rw mark refl, omega (arith, count))
+    omega (arith, count)
+
+-- the mark and the count
+abbrev Made : ℕ → Worked → Type 0
+Made most w = (among (w .settled) marks ≡ true) × (w .count ≤ most)
 
 work-made : (f : Format) (a : Asked) → workOf f a .code ≡ 0 → Made (mostTurnsOf (kindNumbered (a .kind))) (workOf f a)
-work-made f a c =
-    by-test (λ (n : ℕ). Made n (workOf f a)) (kindNumbered (a .kind) .counts) mostTurns 0 (λ q. work-turned f a q c) (λ q. work-unturned f a q c)
+work-made f a c = (
+  mark-known (workOf f a .settled) (work-mark f a),
+  by-test (λ (n : ℕ). workOf f a .count ≤ n) (kindNumbered (a .kind) .counts) mostTurns 0 (λ q. work-turned f a q c) (λ q. work-unturned f a q c),
+)
 
 -- ---- a request of the right size
 

@@ -10,10 +10,11 @@ use Rattle.jacobi.specs.Rotation.{tangentOf, rotationOf}
 use Rattle.jacobi.specs.Pairs.{largestOf}
 use Rattle.jacobi.specs.Order.{ordered}
 use Rattle.jacobi.specs.Run.{runFrom, run}
+use Rattle.eigen.specs.Pairs.{blindAt}
 use Rattle.eigen.specs.Eigen2x2.{axesOf, solved2, end2Of, eigen2Of}
-use Rattle.eigen.specs.Eigen3x3.{settledOf, nextMatrix, nextVectors, stepOf, runOf, rankedOf, endOf, eigenOf}
+use Rattle.eigen.specs.Eigen3x3.{settledOf, nextMatrix, nextVectors, stepOf, watchedOf, rankedOf, endOf, eigenOf}
 use Rattle.svd.specs.Polar.{hypotOf, polarBy, polarOf, twoSidedOf}
-use Rattle.svd.specs.Pairs.{sidesOf}
+use Rattle.svd.specs.Pairs as svdPairs
 use Rattle.svd.specs.Order.{signedColumn, orderOf, order2Of}
 use Rattle.svd.specs.Svd2x2 as svd2
 use Rattle.svd.specs.Svd3x3 as svd3
@@ -25,11 +26,12 @@ use Rattle.promises.specs.Examples.{Row, answerTo, table}
 
 pub examples : map (λ (r : Row). answerTo (r .asked)) table ≡ map (λ (r : Row). r .answer) table
 unfolding rootOf magnitudeOf signBitOf signumOf finite allFinite judged pivotOf steps2Of steps3Of factor2Of factor3Of factorAndSolve2Of tangentOf rotationOf
-    largestOf ordered runFrom run axesOf solved2 end2Of eigen2Of settledOf nextMatrix nextVectors stepOf runOf rankedOf endOf eigenOf hypotOf polarBy polarOf
-    twoSidedOf sidesOf signedColumn orderOf order2Of svd2.factors2Of svd2.end2Of svd2.svd2Of svd3.settledOf svd3.stepOf svd3.runOf svd3.factorsOf svd3.endOf
-    svd3.svdOf fromFactor answeredBy wordOf bytesOf numberBytesOf allZero formOf judgedOf recordOf recordStepOf add sub mul div lt le eq isNan ofBits toBits
+    largestOf ordered runFrom run axesOf solved2 end2Of eigen2Of blindAt settledOf nextMatrix nextVectors stepOf watchedOf rankedOf endOf eigenOf
+    hypotOf polarBy polarOf twoSidedOf svdPairs.sidesOf svdPairs.blindAt signedColumn orderOf order2Of svd2.factors2Of svd2.end2Of svd2.svd2Of
+    svd3.settledOf svd3.stepOf svd3.watchedOf svd3.factorsOf svd3.endOf svd3.svdOf
+    fromFactor answeredBy wordOf bytesOf numberBytesOf allZero formOf judgedOf recordOf recordStepOf add sub mul div lt le eq isNan ofBits toBits
 examples = refl
 
--- P1 to P14, of which P13 has two rows, two of a NaN pivot, and the whole example
-pub all-rows : length table ≡ 18
+-- P1 to P14, of which P13 has two rows, two of a NaN pivot, three of blind rotations, and the whole example
+pub all-rows : length table ≡ 21
 all-rows = refl

@@ -1,15 +1,16 @@
 -- What is left is the slice as it was, the answer to a request of the wrong size, or the answer to a request: each is looked at byte by byte.
-use Rattle.float.proofs.Words.{_≡_, refl, sym, ap, _∙_, subst, not, _&&_, List, [], _∷_, _++_, append-assoc, ℕ, _≤_, arith, eqb, length, getD, take, drop}
-use Rattle.float.proofs.Words.{replicate, length-append, take-append-drop, length-take-le, take-suc, take-at, drop-cons, getD-drop, Format}
+use Rattle.float.proofs.Words.{_≡_, refl, sym, ap, _∙_, subst, not, _&&_, List, [], _∷_, _++_, append-assoc, ℕ, zero, suc, _≤_, arith, eqb, length}
+use Rattle.float.proofs.Words.{getD, take, drop, replicate, length-append, take-append-drop, length-take-le, take-suc, take-at, drop-cons, getD-drop, Format}
 use contract.Lifetimes.{Lfts}
 use Rattle.float.specs.Width.{F}
 use Rattle.float.specs.Choice.{pick}
+use Rattle.float.specs.Exactly.{Exactly}
 use Rattle.float.specs.Sign.{allFinite}
-use Rattle.float.proofs.Choice.{chosen, by-eqb, whether}
+use Rattle.float.proofs.Choice.{chosen, whether}
 use Rattle.kinds.specs.Table.{kindNumbered, knownKind}
 use Rattle.kinds.specs.Work.{refusedKind, usedFinite, workOf}
 use Rattle.kinds.specs.declared.work.Worked.{Worked}
-use Rattle.kinds.proofs.Works.{Uncounted, work-uncounted, work-marked}
+use Rattle.kinds.proofs.Works.{Uncounted, work-uncounted}
 use Rattle.wire.specs.Bytes.{numberBytesOf}
 use Rattle.record.specs.Layout.{eventBytes, requestSize, codeAt, countAt, markAt, answerSize}
 use Rattle.record.specs.Request.{kindOf, askedOf, reservedZero, unusedZero, formOf, judgedOf}
@@ -19,11 +20,13 @@ use Rattle.record.proofs.answer.zanikory_answer_record.Reads as answer-record
 use Rattle.cholesky.specs.Pivots.{oneAtMostZero, oneNan, refusedPivot, Stopped}
 use Rattle.cholesky.proofs.Stops.{unstopped, by-stopped}
 use Rattle.promises.specs.Conditions.{pivotsIn, madeIn}
+use Rattle.promises.specs.Marks.{MarkIn}
 use Rattle.promises.specs.Leaves.{Not, Turned, Leaves}
 use Rattle.promises.specs.Scope.{answerLength}
-use Rattle.promises.proofs.Scope.{answer-length, counts-turned, unturned}
+use Rattle.promises.proofs.Scope.{answer-length, counts-turned}
 use Rattle.promises.proofs.Codes.{judged-code}
 use Rattle.promises.proofs.Pivots.{pivot-given}
+use Rattle.promises.proofs.Marks.{judged-mark, judged-marked}
 
 -- ---- the head of a record
 
@@ -60,15 +63,6 @@ module _ (f : Format) (s : List ℕ) where
       chosen P (eqb (formOf f s) 0) (pick (usedFinite (askedOf f s)) (workOf f (askedOf f s)) (refusedKind f 5 0)) (refusedKind f (formOf f s) 0)
       (chosen P (usedFinite (askedOf f s)) (workOf f (askedOf f s)) (refusedKind f 5 0) (work-uncounted f (askedOf f s)) (λ _ _. refl)) (λ _ _. refl)
 
-  judged-marked : judgedOf f s .code ≡ 0 → (Turned (kindOf s) → ⊥) → judgedOf f s .settled ≡ 1
-  unfolding judgedOf
-  judged-marked e n =
-      let P : Worked → Type 0 = λ (w : Worked). w .code ≡ 0 → w .settled ≡ 1 in
-      by-eqb P (formOf f s) 0 (pick (usedFinite (askedOf f s)) (workOf f (askedOf f s)) (refusedKind f 5 0)) (refusedKind f (formOf f s) 0)
-      (λ _. chosen P (usedFinite (askedOf f s)) (workOf f (askedOf f s)) (refusedKind f 5 0) (λ c. work-marked f (askedOf f s) c (unturned (kindOf s) n))
-      (λ c. absurd (omega arith)))
-      (λ k c. absurd (k c)) e
-
 -- ---- any slices
 
 module _ (f : Format) (s a : List ℕ) (room : length a ≡ answerSize f) where
@@ -86,9 +80,10 @@ module _ (f : Format) (s a : List ℕ) (room : length a ≡ answerSize f) where
   headed : (event : Not 1 code → take codeAt left ≡ take codeAt s) (unread : code ≡ 1 → take codeAt left ≡ replicate codeAt 0) → Not 2 code
       → (pivot : Stopped code → getD left countAt 0 ≡ refusedPivot f 1 (pivotsIn f s))
       → ((Stopped code → ⊥) → ((code ≡ 0) × Turned (kindOf s) → ⊥) → getD left countAt 0 ≡ 0)
-      → (settled : code ≡ 0 → (Turned (kindOf s) → ⊥) → getD left markAt 0 ≡ 1)
+      → (mark : getD left markAt 0 ≤ 1)
+      → (marked : code ≡ 0 → Exactly (getD left markAt 0 ≡ 1) (MarkIn f s))
       → Leaves f s a code left
-  headed event unread n pivot uncounted settled = record {
+  headed event unread n pivot uncounted mark marked = record {
     untouched = (λ e. absurd (n e));
     size = (λ _. answer-size f s a room ∙ sym (answer-length f));
     coded = (λ _. code-in-place f s a room);
@@ -96,7 +91,8 @@ module _ (f : Format) (s a : List ℕ) (room : length a ≡ answerSize f) where
     unread = unread;
     pivot = pivot;
     uncounted = (λ _. uncounted);
-    settled = settled;
+    mark = (λ _. mark);
+    marked = marked;
     unmarked = (λ _ k. mark-of ∙ ap (λ (l : List ℕ). getD l 0 0) (refused-unmarked f s a room k));
     clear = (λ _ k. rw (answer-length f) (refused-clear f s a room k));
   }
@@ -116,7 +112,8 @@ answered f s a room size =
     (λ k. judged-past-sizes f s .1 (sym same ∙ k))
     (λ k. count ∙ pivot-given f s (subst Stopped same k))
     (λ k c. count ∙ judged-uncounted f s (λ q. k (subst Stopped (sym same) q)) (λ q. c (same ∙ q .0, counts-turned (kindOf s) (q .1))))
-    (λ k n. mark ∙ judged-marked f s (sym same ∙ k) n)
+    (rw mark (judged-mark f s))
+    (λ k. rw mark (judged-marked f s (sym same ∙ k)))
 
 unread : (f : Format) (s a : List ℕ) → length a ≡ answerSize f → (length s ≡ requestSize f → ⊥)
     → Leaves f s a (recordStepOf f s a .code) (recordStepOf f s a .answer)
@@ -125,7 +122,8 @@ unread f s a room size =
     let e = wrong-size f s a room size in
     let c = ap (λ (t : Step). t .code) e in
     headed f s a room (λ n. absurd (n c)) (λ _. ap (λ (t : Step). take codeAt (t .answer)) e) (λ k. absurd (omega (arith, c)))
-    (λ k. absurd (unstopped 1 refl (subst Stopped c k))) (λ _ _. ap (λ (t : Step). getD (t .answer) countAt 0) e) (λ k. absurd (omega (arith, c)))
+    (λ k. absurd (unstopped 1 refl (subst Stopped c k))) (λ _ _. ap (λ (t : Step). getD (t .answer) countAt 0) e)
+    (omega (arith, ap (λ (t : Step). getD (t .answer) markAt 0) e)) (λ k. absurd (omega (arith, c)))
 
 untouched : (f : Format) (s a : List ℕ) → (length a ≡ answerSize f → ⊥) → Leaves f s a (recordStepOf f s a .code) (recordStepOf f s a .answer)
 untouched f s a n =
@@ -139,7 +137,8 @@ untouched f s a n =
       unread = (λ k. absurd (omega (arith, c)));
       pivot = (λ k. absurd (unstopped 2 refl (subst Stopped c k)));
       uncounted = (λ k. absurd (k c));
-      settled = (λ k. absurd (omega (arith, c)));
+      mark = (λ k. absurd (k c));
+      marked = (λ k. absurd (omega (arith, c)));
       unmarked = (λ k. absurd (k c));
       clear = (λ k. absurd (k c));
     }
@@ -168,6 +167,20 @@ one-refusal f s a c l m x y n =
     head-of l (omega (arith, x .size k))
     ∙ (rw (event, x .coded k ∙ sym (y .coded k), count, x .unmarked k n ∙ sym (y .unmarked k n), x .clear k n ∙ sym (y .clear k n)))
     ∙ sym (head-of m (omega (arith, y .size k))))
+
+-- ---- nor does an answer leave its mark open
+
+pub one-mark : (f : Format) (s a l m : List ℕ) → Leaves f s a 0 l → Leaves f s a 0 m → getD l 7 0 ≡ getD m 7 0
+one-mark f s a l m x y =
+    let p = x .mark (λ e. absurd (omega arith)) in
+    let q = y .mark (λ e. absurd (omega arith)) in
+    whether (getD l 7 0) 1 (λ e. e ∙ sym (y .marked refl .1 (x .marked refl .0 e)))
+    (λ n. whether (getD m 7 0) 1 (λ e. absurd (n (x .marked refl .1 (y .marked refl .0 e)))) (λ k. zero-else _ p n ∙ sym (zero-else _ q k)))
+  where
+    zero-else : (k : ℕ) → k ≤ 1 → (k ≡ 1 → ⊥) → k ≡ 0
+    zero-else zero h n = refl
+    zero-else (suc zero) h n = absurd (n refl)
+    zero-else (suc (suc k)) h n = absurd (omega arith)
 
 -- ---- any answer within the promise of the record step
 

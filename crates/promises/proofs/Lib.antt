@@ -6,9 +6,11 @@ pub mod Codes
 pub mod Told
 pub mod Signs
 pub mod Columns
+pub mod Flipped
 pub mod Wiring
 pub mod Vouched
 pub mod Pivots
+pub mod Marks
 pub mod Leaves
 pub mod NanPivots
 pub mod Counted

@@ -1,5 +1,5 @@
 -- The scope's numbers, written out, are those of the layout and of the table of kinds: each format and each kind is looked at.
-use Rattle.float.proofs.Words.{_≡_, refl, sym, ap, _∙_, Bool, true, false, false≢true, List, [], _∷_, ℕ, zero, suc, _+_, _*_, _<_, arith, eqb, take, drop}
+use Rattle.float.proofs.Words.{_≡_, refl, sym, ap, _∙_, true, false, false≢true, List, [], _∷_, ℕ, zero, suc, _+_, _*_, _<_, arith, eqb, take, drop}
 use Rattle.float.proofs.Words.{inl, inr, Format, binary32, binary64, ofBits, ne-eqb}
 use Rattle.float.specs.Sign.{allFinite}
 use Rattle.float.proofs.Finite.{all-finite-append}
@@ -120,10 +120,3 @@ pub counts-turned : (n : ℕ) → kindNumbered n .counts ≡ true → Turned n
 counts-turned =
     let P : ℕ → Type 0 = λ (n : ℕ). kindNumbered n .counts ≡ true → Turned n in
     each-number P uncounted uncounted (λ _. inl refl) uncounted (λ _. inr refl) uncounted uncounted uncounted uncounted (λ n. rw (past-eight n) uncounted)
-
-pub unturned : (n : ℕ) → (Turned n → ⊥) → kindNumbered n .counts ≡ false
-unturned n h = by (kindNumbered n .counts) refl
-  where
-    by : (t : Bool) → kindNumbered n .counts ≡ t → kindNumbered n .counts ≡ false
-    by true e = absurd (h (counts-turned n e))
-    by false e = e

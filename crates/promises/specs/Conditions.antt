@@ -44,8 +44,8 @@ NotZero f s = ((i : ℕ) → Unused f (kindIn s) i → getD s i 0 ≡ 0) → ⊥
 abbrev pub usedIn : Format → List ℕ → List Float
 usedIn f s = numbersIn f 8 (usedNine (kindIn s)) s ++ numbersIn f (threeBegin f) (usedThree (kindIn s)) s
 
--- ---- 6 and 9: the pivots of each kernel. One counts only if those before it are above zero; if one of them is not, that is a 6 or a 9 already. After a NaN
--- all are NaN, so that no 6 hides a 9.
+-- ---- 6 and 9: the pivots of each kernel. A pivot counts only if those before it are above zero; if one of them is not, that is a 6 or a 9 already.
+-- After a NaN all are NaN, so that no 6 hides a 9.
 
 abbrev pub pivotsOf : Format → Kernel → Asked → List Float
 pivotsOf f Eigen2x2 a = []

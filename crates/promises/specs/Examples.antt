@@ -1,5 +1,5 @@
--- The scope's examples P1 to P14 and its whole example, and a third pivot that is NaN, as rows of one table: what is asked, and all that is answered.
--- Definitions only.
+-- The scope's examples P1 to P14 and its whole example, a third pivot that is NaN, and blind rotations, as rows of one table: what is asked, and all that is
+-- answered. Definitions only.
 -- A number is its bit pattern. Zeros that fill up the places of a record are left out at the end of a list.
 use mathlib.Core.List.{List, [], _∷_, _++_, map}
 use Prim.Native.Nat.{ℕ, _+_, _-_, _*_, _^_}
@@ -70,9 +70,12 @@ answerTo (whole request) = ofStep (recordStepOf binary64 request (replicate 176 
 abbrev pub filled : ℕ → List ℕ → List ℕ
 filled n xs = xs ++ replicate (n - length xs) 0
 
--- a record's answer with code 0
+-- a record's answer with code 0, and one that is not settled
 abbrev pub good : ℕ → List ℕ → List ℕ → List ℕ → Shown
 good rotations values left right = numbers 0 rotations 1 (filled 3 values) (filled 9 left) (filled 9 right)
+
+abbrev pub unsettled : ℕ → List ℕ → List ℕ → List ℕ → Shown
+unsettled rotations values left right = numbers 0 rotations 0 (filled 3 values) (filled 9 left) (filled 9 right)
 
 -- a refused one, with the pivot's number or 0
 abbrev pub bad : ℕ → ℕ → Shown
@@ -112,6 +115,9 @@ largest = 0x7FEFFFFFFFFFFFFF
 -- 2^k for k of the normal numbers, as 1023 + k
 abbrev pub power : ℕ → ℕ
 power biased = biased * 2 ^ 52
+
+abbrev pub tiny : ℕ
+tiny = power (1023 - 60)
 
 abbrev pub nanPivot : List ℕ
 nanPivot = 1 ∷ 0 ∷ one ∷ power (1023 + 1023) ∷ 0 ∷ one ∷ []
@@ -173,6 +179,12 @@ table =
     -- a NaN pivot: 2^-1074, 0, 1, 2^1023, 0, 1, the record, and what its kernel wrote: L31 is infinite, and L32 the one NaN
     ∷ row (kind 6 nanPivot []) (bad 9 3)
     ∷ row (factor3 nanPivot) (early 9 3 (power (1023 - 537) ∷ 0 ∷ one ∷ 0x7FF0000000000000 ∷ 0x7FF8000000000000 ∷ old 1))
+    -- a blind rotation: 0 and 2^-60 on the diagonal, 1 beside it. The values are -1 and 1, rounded, and the vectors those of 45 degrees
+    ∷ row (kind 1 (0 ∷ one ∷ tiny ∷ []) []) (unsettled 0 (minus one ∷ one ∷ []) (h ∷ minus h ∷ h ∷ h ∷ []) [])
+    ∷ row (kind 2 (0 ∷ one ∷ tiny ∷ 0 ∷ 0 ∷ one ∷ []) [])
+    (unsettled 1 (minus one ∷ one ∷ one ∷ []) (h ∷ minus h ∷ 0 ∷ h ∷ h ∷ 0 ∷ 0 ∷ 0 ∷ one ∷ []) [])
+    -- 0 and -0 do not differ
+    ∷ row (kind 1 (0 ∷ one ∷ minus 0 ∷ []) []) (good 0 (minus one ∷ one ∷ []) (h ∷ minus h ∷ h ∷ h ∷ []) [])
     -- the whole example: event 7, kind 1, numbers 2, 1, 2; h is CD 3B 7F 66 9E A0 E6 3F
     ∷ row (whole (7 ∷ 0 ∷ 0 ∷ 0 ∷ 1 ∷ 0 ∷ 0 ∷ 0 ∷ twoBytes ++ oneBytes ++ twoBytes ++ replicate 72 0))
     (slice 0

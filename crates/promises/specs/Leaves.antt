@@ -2,12 +2,14 @@
 use mathlib.Core.Path.{_≡_}
 use mathlib.Core.List.{List}
 use mathlib.Core.Logic.{_⊎_}
-use Prim.Native.Nat.{ℕ, _-_}
+use Prim.Native.Nat.{ℕ, _-_, _≤_}
 use lib.ListN.{length, getD, take, drop, replicate}
 use lib.Ieee.{Format}
+use Rattle.float.specs.Exactly.{Exactly}
 use Rattle.cholesky.specs.Pivots.{refusedPivot, Stopped}
 use Rattle.promises.specs.Scope.{answerLength, kindIn}
 use Rattle.promises.specs.Conditions.{pivotsIn}
+use Rattle.promises.specs.Marks.{MarkIn}
 
 abbrev pub Not : ℕ → ℕ → Type 0
 Not k code = code ≡ k → ⊥
@@ -28,7 +30,8 @@ pub record Leaves (f : Format) (request answer : List ℕ) (code : ℕ) (left : 
   -- byte 6 has with 6 and 9 the number of the first pivot that has no root, and with 0 the rotations of a kind that counts them; it is zero otherwise
   pub pivot : Stopped code → getD left 6 0 ≡ refusedPivot f 1 (pivotsIn f request)
   pub uncounted : Not 2 code → (Stopped code → ⊥) → ((code ≡ 0) × Turned (kindIn request) → ⊥) → getD left 6 0 ≡ 0
-  -- the mark, byte 7, is 1 with 0 for a kind that is not turned; it and all numbers are zero with any code but 0
-  pub settled : code ≡ 0 → (Turned (kindIn request) → ⊥) → getD left 7 0 ≡ 1
+  -- the mark, byte 7, is at most 1, and with 0 it is 1 exactly if it is owed; it and all numbers are zero with any code but 0
+  pub mark : Not 2 code → getD left 7 0 ≤ 1
+  pub marked : code ≡ 0 → Exactly (getD left 7 0 ≡ 1) (MarkIn f request)
   pub unmarked : Not 2 code → Not 0 code → getD left 7 0 ≡ 0
   pub clear : Not 2 code → Not 0 code → drop 8 left ≡ replicate (answerLength f - 8) 0

@@ -3,6 +3,7 @@ pub mod Scope
 pub mod Conditions
 pub mod Wiring
 pub mod Vouched
+pub mod Marks
 pub mod Leaves
 pub mod NanPivots
 pub mod Counted

@@ -2,13 +2,14 @@
 -- Definitions only.
 use mathlib.Core.Path.{_≡_}
 use mathlib.Core.List.{List, [], _∷_, _++_}
+use mathlib.Core.Logic.{_⊎_}
 use Prim.Native.Nat.{ℕ, zero, suc, _+_, _-_, _*_, _%_, _<_}
 use lib.ListN.{getD, take, drop}
 use lib.Ieee.{Format}
 use Rattle.eigen.specs.Reversed.{AllDiffer, ValuesExchanged, ColumnsExchanged}
 use Rattle.wire.specs.Bytes.{numberBytes, placeOf, part}
 use Rattle.record.specs.Layout.{nineAt, codeAt, countAt, markAt, leftAt}
-use Rattle.record.specs.Request.{judgedOf}
+use Rattle.record.specs.Request.{kindOf, judgedOf}
 use Rattle.record.specs.Answer.{answeredOf}
 
 -- ---- signs flipped
@@ -26,9 +27,13 @@ unfoldable pub flippedNumbers : Format → ℕ → List ℕ → List ℕ
 flippedNumbers f zero s = s
 flippedNumbers f (suc n) s = flippedNumber f (take (numberBytes f) s) ++ flippedNumbers f n (drop (numberBytes f) s)
 
--- a request with the first six of its numbers flipped
+-- a request with the first n of its numbers flipped
+abbrev pub flippedFirst : Format → ℕ → List ℕ → List ℕ
+flippedFirst f n s = take nineAt s ++ flippedNumbers f n (drop nineAt s)
+
+-- all six of kind 2
 abbrev pub flipped : Format → List ℕ → List ℕ
-flipped f s = take nineAt s ++ flippedNumbers f 6 (drop nineAt s)
+flipped f s = flippedFirst f 6 s
 
 -- what lies in a slice of bytes
 abbrev pub Bytes : List ℕ → Type 0
@@ -57,3 +62,14 @@ pub record ReversedRecords (f : Format) (s t : List ℕ) : Type 0 where
   pub values : judgedOf f s .code ≡ 0 → ValuesExchanged (judgedOf f s .values) (judgedOf f t .values)
   pub columns : judgedOf f s .code ≡ 0 → AllDiffer (judgedOf f s .values) → ColumnsExchanged (judgedOf f s .left) (judgedOf f t .left)
   pub bytes : judgedOf f s .code ≡ 0 → AllDiffer (judgedOf f s .values) → BytesExchanged f s t
+
+-- ---- a request of kind 1 or 3, whose 2x2 matrix has three numbers or four
+
+-- t is s with these numbers flipped
+abbrev pub PairFlipped : Format → List ℕ → List ℕ → Type 0
+PairFlipped f s t = ((kindOf s ≡ 1) × (t ≡ flippedFirst f 3 s)) ⊎ ((kindOf s ≡ 3) × (t ≡ flippedFirst f 4 s))
+
+-- code and mark are the same
+pub record ReversedMarks (f : Format) (s t : List ℕ) : Type 0 where
+  pub codes : SameByte f codeAt s t
+  pub marks : SameByte f markAt s t

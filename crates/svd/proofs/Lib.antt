@@ -1,11 +1,14 @@
 pub mod Signed
 pub mod Rounds
+pub mod Watched
 pub mod Answered
 pub mod Counted
+pub mod Marked
 pub mod Moved
 pub mod Sizes
 pub mod Ordered
 pub mod Owed
 pub mod Rows
 pub mod Settled
+pub mod Reversed2x2
 pub mod Unique

@@ -1,5 +1,5 @@
 -- Settled means that the sums of all three pairs are under the limit: the test reads the largest of them. A sum of two magnitudes may overflow, but it is no
--- NaN.
+-- NaN. The mark asks for that and for no blind rotation.
 use Rattle.float.proofs.Words.{_≡_, sym, ap, _∙_, true, false, List, ℕ, _<_, arith, length, Float, Format, add, isNan}
 use Rattle.float.specs.Width.{F}
 use Rattle.float.specs.Constants.{limitF}
@@ -8,15 +8,22 @@ use Rattle.float.specs.Sign.{magnitudeOf, finite, allFinite}
 use Rattle.float.proofs.Finite.{at-finite, parts-finite, magnitude-finite}
 use Rattle.float.proofs.Under.{add-no-nan, limit-finite}
 use Rattle.matrix.specs.Places.{at}
+use Rattle.matrix.specs.declared.square.Mat2.{Mat2}
 use Rattle.matrix.specs.declared.square.Mat3.{Mat3}
 use Rattle.jacobi.specs.declared.pairs.Pair.{Pair}
 use Rattle.jacobi.proofs.Largest.{sizes-under}
+use Rattle.jacobi.proofs.Watched.{not-means, mark-means}
+use Rattle.svd.specs.Polar.{blindSides}
 use Rattle.svd.specs.Pairs.{sizeOf}
-use Rattle.svd.specs.Svd3x3.{settledOf, lastOf, svdOf}
-use Rattle.svd.specs.Counted.{AllUnder}
+use Rattle.svd.specs.Svd3x3.{settledOf, lastOf, watchedLastOf, svdOf}
+use Rattle.svd.specs.Svd2x2.{sides2Of, svd2Of}
+use Rattle.svd.specs.Counted.{NoneBlindIn, AllUnder}
+use Rattle.svd.specs.declared.svd2x2.Svd2.{Svd2}
 use Rattle.svd.specs.declared.svd3x3.Svd3.{Svd3}
-use Rattle.svd.proofs.Answered.{answered}
+use Rattle.svd.proofs.Answered.{answered, answered2}
+use Rattle.svd.proofs.Counted.{blind-counted}
 use Rattle.svd.proofs.Sizes.{last-full}
+use Rattle.svd.proofs.svd2x2.svd.Reads as svd2x2-svd
 use Rattle.svd.proofs.svd3x3.svd.Reads as svd
 
 pub settled-finite : (f : Format) (a : List Float) → length a ≡ 9 → allFinite a ≡ true → Exactly (settledOf f a ≡ true) (AllUnder f a)
@@ -29,12 +36,23 @@ settled-finite f a n e =
 
 -- of the answer, and of the call: of any answer within the promise that the source states
 pub settled-means : (f : Format) (a : List Float) → length a ≡ 9 → svdOf f a .code ≡ 0
-    → Exactly (svdOf f a .settled ≡ true) (AllUnder f (svdOf f a .worked .«data»))
+    → Exactly (svdOf f a .settled ≡ true) (AllUnder f (svdOf f a .worked .«data») × NoneBlindIn f a (svdOf f a .made .count))
 settled-means f a n e =
     let s = lastOf f a in
     let g = answered f a e in
-    rw (g .answer) (settled-finite f (s .matrix) (last-full f a n .matrix) (parts-finite (s .matrix) _ (g .numbers) .0))
+    let u = settled-finite f (s .matrix) (last-full f a n .matrix) (parts-finite (s .matrix) _ (g .numbers) .0) in
+    let k = mark-means (watchedLastOf f a .blind) (settledOf f (s .matrix)) (blind-counted f a) in
+    rw (g .answer) ((λ h. let t = k .0 h in (u .0 (t .0), t .1)), (λ h. k .1 (u .1 (h .0), h .1)))
 
 pub settled-call : (a : Mat3) (r : Svd3) → length (a .«data») ≡ 9 → svd.Post tt (a, tt) r (a, tt) → r .code ≡ 0
-    → Exactly (r .settled ≡ true) (AllUnder F (r .worked .«data»))
+    → Exactly (r .settled ≡ true) (AllUnder F (r .worked .«data») × NoneBlindIn F (a .«data») (r .made .count))
 settled-call a r n p e = rw p (settled-means F (a .«data») n (sym (ap (λ (r : Svd3). r .code) p) ∙ e))
+
+-- ---- a 2x2 is turned once
+
+pub settled2-means : (f : Format) (a : List Float) → svd2Of f a .code ≡ 0 → Exactly (svd2Of f a .settled ≡ true) (blindSides f (sides2Of f a) ≡ false)
+settled2-means f a e = rw (answered2 f a e .answer) (not-means (blindSides f (sides2Of f a)))
+
+pub settled2-call : (a : Mat2) (r : Svd2) → svd2x2-svd.Post tt (a, tt) r (a, tt) → r .code ≡ 0
+    → Exactly (r .settled ≡ true) (blindSides F (sides2Of F (a .«data»)) ≡ false)
+settled2-call a r p e = rw p (settled2-means F (a .«data») (sym (ap (λ (r : Svd2). r .code) p) ∙ e))

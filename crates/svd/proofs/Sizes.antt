@@ -35,7 +35,7 @@ pub record FullFactors (n : ℕ) (w : Factors) : Type 0 where
   pub u : length (w .carried .u) ≡ n * n
   pub v : length (w .carried .v) ≡ n * n
 
-signed-full : (n i : ℕ) (x : Float) (u : List Float) → length u ≡ n * n → length (signedColumn n i x u) ≡ n * n
+pub signed-full : (n i : ℕ) (x : Float) (u : List Float) → length u ≡ n * n → length (signedColumn n i x u) ≡ n * n
 unfolding signedColumn
 signed-full n i x u h = chosen (λ (v : List Float). length v ≡ n * n) (signBitOf x) (negateOf n i u) u (length-tabulate (n * n) _) h
 

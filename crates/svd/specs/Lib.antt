@@ -4,5 +4,7 @@ pub mod Order
 pub mod Svd3x3
 pub mod Svd2x2
 pub mod Counted
+pub mod Marked
 pub mod Ordered
 pub mod Owed
+pub mod Reversed2x2

@@ -1,4 +1,5 @@
 -- What a two-sided rotation of one pair makes of a square 3x3, and which pair is rotated. Definitions only.
+use mathlib.Core.Bool.{Bool}
 use mathlib.Core.List.{List}
 use Prim.Native.Nat.{ℕ}
 use lib.Ieee.{Float, Format, add, sub, mul}
@@ -9,7 +10,7 @@ use Rattle.jacobi.specs.Pairs.{Place, atP, atQ, atK, placeIn, indexP, indexQ, i
 use Rattle.jacobi.specs.declared.pairs.Pair.{Pair}
 use Rattle.jacobi.specs.declared.pairs.Pair.the-variants.{P12, P13, P23}
 use Rattle.jacobi.specs.declared.pairs.OffDiag.{OffDiag}
-use Rattle.svd.specs.Polar.{twoSidedOf}
+use Rattle.svd.specs.Polar.{twoSidedOf, blindSides}
 use Rattle.svd.specs.declared.polar.TwoSided.{TwoSided}
 
 -- the number at (i, j)
@@ -35,6 +36,10 @@ sidesOf f x a =
 
 abbrev pub chosenOf : Format → List Float → TwoSided
 chosenOf f a = sidesOf f (pairOf f a) a
+
+-- whether it is blind
+unfoldable pub blindAt : Format → List Float → Bool
+blindAt f a = blindSides f (chosenOf f a)
 
 -- ---- the matrix after it: what lies in the pair's rows turns by the left rotation, what lies in its columns by the right one
 

@@ -1,10 +1,12 @@
 -- One pair of a square matrix: the polar rotation that makes it symmetric, and with it the two-sided rotation that makes it diagonal. Definitions only.
+use mathlib.Core.Bool.{Bool}
 use lib.Ieee.{Float, Format, add, sub, mul, div, neg, lt, eq}
 use Rattle.float.specs.Choice.{pick}
 use Rattle.float.specs.Constants.{zeroF, oneF}
 use Rattle.float.specs.Root.{rootOf}
 use Rattle.float.specs.Sign.{magnitudeOf}
 use Rattle.jacobi.specs.Rotation.{rotationOf}
+use Rattle.jacobi.specs.Blind.{blindOf}
 use Rattle.jacobi.specs.declared.rotation.Rotation.{Rotation}
 use Rattle.svd.specs.declared.polar.Polar.{Polar}
 use Rattle.svd.specs.declared.polar.TwoSided.{TwoSided}
@@ -63,3 +65,7 @@ unfolding polarOf
 twoSidedOf f app aqp apq aqq =
     let p = polarOf f app aqp apq aqq in
     composed f p (rotationOf f (p .s12) (p .s11) (p .s22))
+
+-- whether the rotation of its symmetrised pair is blind
+abbrev pub blindSides : Format → TwoSided → Bool
+blindSides f r = blindOf f (r .s12) (r .s11) (r .s22)

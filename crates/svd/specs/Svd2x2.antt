@@ -1,12 +1,12 @@
 -- The 2x2 call: one two-sided rotation. Definitions only.
-use mathlib.Core.Bool.{true, false}
+use mathlib.Core.Bool.{Bool, false, not}
 use mathlib.Core.List.{List, [], _∷_, _++_}
 use Prim.Native.Nat.{ℕ}
 use lib.Ieee.{Float, Format, neg}
 use Rattle.float.specs.Judged.{judgedCall}
 use Rattle.matrix.specs.Places.{zeros, at}
 use Rattle.matrix.specs.Square.{mat2}
-use Rattle.svd.specs.Polar.{twoSidedOf}
+use Rattle.svd.specs.Polar.{twoSidedOf, blindSides}
 use Rattle.svd.specs.Order.{Factors, order2Of}
 use Rattle.svd.specs.declared.polar.TwoSided.{TwoSided}
 use Rattle.svd.specs.declared.svd2x2.Svd2.{Svd2}
@@ -31,12 +31,13 @@ refusedSvd2 f k = record { code = k; settled = false; values = zeros f 2; u = ma
 abbrev pub numbers2Of : Factors → List Float
 numbers2Of w = w .values ++ (w .carried .u ++ w .carried .v)
 
-abbrev pub answer2Of : Factors → Svd2
-answer2Of w = record { code = 0; settled = true; values = w .values; u = mat2 (w .carried .u); v = mat2 (w .carried .v) }
+-- the mark: its rotation is not blind
+abbrev pub answer2Of : Bool → Factors → Svd2
+answer2Of blind w = record { code = 0; settled = not blind; values = w .values; u = mat2 (w .carried .u); v = mat2 (w .carried .v) }
 
--- the answer to a, whose factors are w
-unfoldable pub end2Of : Format → List Float → Factors → Svd2
-end2Of f a w = judgedCall (refusedSvd2 f) a (numbers2Of w) (answer2Of w)
+-- the answer to a, whose rotation is r
+unfoldable pub end2Of : Format → List Float → TwoSided → Svd2
+end2Of f a r = judgedCall (refusedSvd2 f) a (numbers2Of (factors2Of r)) (answer2Of (blindSides f r) (factors2Of r))
 
 unfoldable pub svd2Of : Format → List Float → Svd2
-svd2Of f a = end2Of f a (factors2Of (sides2Of f a))
+svd2Of f a = end2Of f a (sides2Of f a)

@@ -1,5 +1,5 @@
 -- The 3x3 call: states, the run of at most 25 two-sided rotations, and the answer. Definitions only.
-use mathlib.Core.Bool.{Bool, false}
+use mathlib.Core.Bool.{Bool, false, not, _&&_}
 use mathlib.Core.List.{List, _++_}
 use Prim.Native.Nat.{ℕ}
 use lib.Ieee.{Float, Format, lt}
@@ -9,8 +9,9 @@ use Rattle.matrix.specs.Places.{zeros}
 use Rattle.matrix.specs.Square.{mat3, identityOf}
 use Rattle.jacobi.specs.Pairs.{turnedOf}
 use Rattle.jacobi.specs.Run.{run, nothingMade, oneMore}
+use Rattle.jacobi.specs.Blind.{Watched, watchedRun, sighted}
 use Rattle.jacobi.specs.declared.made.Made.{Made}
-use Rattle.svd.specs.Pairs.{entry, offDiagOf, pairOf, chosenOf, appliedOf}
+use Rattle.svd.specs.Pairs.{entry, offDiagOf, pairOf, chosenOf, blindAt, appliedOf}
 use Rattle.svd.specs.Order.{Factors, orderOf}
 use Rattle.svd.specs.declared.svd3x3.Working.{Working}
 use Rattle.svd.specs.declared.svd3x3.Svd3.{Svd3}
@@ -23,11 +24,12 @@ pub record State : Type 0 where
   pub v : List Float
   pub made : Made
 
-abbrev pub working : State → Working
-working s = record { a = mat3 (s .matrix); u = mat3 (s .u); v = mat3 (s .v); made = s .made }
+-- and whether a rotation made so far was blind
+abbrev pub working : Watched State → Working
+working w = let s = w .state in record { a = mat3 (s .matrix); u = mat3 (s .u); v = mat3 (s .v); made = s .made; blind = w .blind }
 
-abbrev pub ofWorking : Working → State
-ofWorking w = record { matrix = w .a .«data»; u = w .u .«data»; v = w .v .«data»; made = w .made }
+abbrev pub ofWorking : Working → Watched State
+ofWorking w = record { state = record { matrix = w .a .«data»; u = w .u .«data»; v = w .v .«data»; made = w .made }; blind = w .blind }
 
 -- ---- the test: the largest sum of two magnitudes is strictly under the limit
 
@@ -55,6 +57,13 @@ startOf f a = record { matrix = a; u = identityOf f 3; v = identityOf f 3; made 
 abbrev pub lastOf : Format → List Float → State
 lastOf f a = runOf f 25 (startOf f a)
 
+-- the same run, watched
+unfoldable pub watchedOf : Format → ℕ → Watched State → Watched State
+watchedOf f k w = watchedRun (stepOf f) (λ (s : State). settledOf f (s .matrix)) (λ (s : State). blindAt f (s .matrix)) k w
+
+abbrev pub watchedLastOf : Format → List Float → Watched State
+watchedLastOf f a = watchedOf f 25 (sighted (startOf f a))
+
 -- ---- the answer
 
 -- refused: all numbers +0, no rotation, not settled
@@ -76,20 +85,24 @@ factorsOf s = orderOf (entry (s .matrix) 0 0) (entry (s .matrix) 1 1) (entry (s 
 abbrev pub numbersOf : State → List Float
 numbersOf s = s .matrix ++ (factorsOf s .carried .u ++ factorsOf s .carried .v)
 
-abbrev pub answerOf : Format → State → Svd3
-answerOf f s = record {
+-- the mark: no rotation was blind, and the last matrix is settled
+abbrev pub markedOf : Format → Bool → List Float → Bool
+markedOf f blind a = not blind && settledOf f a
+
+abbrev pub answerOf : Format → Watched State → Svd3
+answerOf f w = record {
   code = 0;
-  made = s .made;
-  settled = settledOf f (s .matrix);
-  values = factorsOf s .values;
-  u = mat3 (factorsOf s .carried .u);
-  v = mat3 (factorsOf s .carried .v);
-  worked = mat3 (s .matrix);
+  made = w .state .made;
+  settled = markedOf f (w .blind) (w .state .matrix);
+  values = factorsOf (w .state) .values;
+  u = mat3 (factorsOf (w .state) .carried .u);
+  v = mat3 (factorsOf (w .state) .carried .v);
+  worked = mat3 (w .state .matrix);
 }
 
--- the answer to a, whose last state is s
-unfoldable pub endOf : Format → List Float → State → Svd3
-endOf f a s = judgedCall (refusedSvd f) a (numbersOf s) (answerOf f s)
+-- the answer to a, whose run ended in w
+unfoldable pub endOf : Format → List Float → Watched State → Svd3
+endOf f a w = judgedCall (refusedSvd f) a (numbersOf (w .state)) (answerOf f w)
 
 unfoldable pub svdOf : Format → List Float → Svd3
-svdOf f a = endOf f a (lastOf f a)
+svdOf f a = endOf f a (watchedLastOf f a)

@@ -6,6 +6,7 @@ use crate::polar::compute_two_sided_rotation;
 use float::sign::all_finite;
 use float::sign::three_finite;
 use float::width::Real;
+use jacobi::blind::is_blind;
 use matrix::codes::ANSWER_NOT_FINITE;
 use matrix::codes::DONE;
 use matrix::codes::INPUT_NOT_FINITE;
@@ -50,8 +51,8 @@ fn refused(code: u8) -> Svd2
 }
 
 // The answer, if all its numbers are finite.
-fn judge(w: Factors2) -> Svd2
-    ensures { λ r. ⌜ r ≡ judged (refusedSvd2 F) 7 (numbers2Of (ofFactors2 w)) (answer2Of (ofFactors2 w)) ⌝ }
+fn judge(w: Factors2, blind: bool) -> Svd2
+    ensures { λ r. ⌜ r ≡ judged (refusedSvd2 F) 7 (numbers2Of (ofFactors2 w)) (answer2Of blind (ofFactors2 w)) ⌝ }
 {
     let values = w.values;
     let u = w.u;
@@ -61,7 +62,7 @@ fn judge(w: Factors2) -> Svd2
     if three_finite(&values, &d, &e) {
         return Svd2 {
             code: DONE,
-            settled: true,
+            settled: !blind,
             values,
             u,
             v,
@@ -80,7 +81,8 @@ pub fn svd(a: Mat2) -> Svd2
         let a21 = d[1];
         let a12 = d[2];
         let a22 = d[3];
-        return judge(factors(compute_two_sided_rotation(a11, a21, a12, a22)));
+        let r = compute_two_sided_rotation(a11, a21, a12, a22);
+        return judge(factors(r), is_blind(r.s12, r.s11, r.s22));
     }
     refused(INPUT_NOT_FINITE)
 }

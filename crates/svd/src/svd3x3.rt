@@ -8,6 +8,7 @@ use float::sign::all_finite;
 use float::sign::three_finite;
 use float::width::LIMIT;
 use float::width::Real;
+use jacobi::blind::is_blind;
 use jacobi::made::Made;
 use jacobi::pairs::OffDiag;
 use jacobi::pairs::turn_columns;
@@ -23,14 +24,15 @@ ghost use Rattle.float.specs.Constants.{limitF};
 ghost use Rattle.float.specs.Judged.{judged};
 ghost use Rattle.float.specs.Sign.{allFinite};
 ghost use Rattle.svd.specs.Order.{factors3};
-ghost use Rattle.svd.specs.Svd3x3.{working, ofWorking, settledOf, lastOf, refusedSvd, factorsOf, numbersOf, answerOf, svdOf};
+ghost use Rattle.svd.specs.Svd3x3.{working, ofWorking, watchedLastOf, refusedSvd, factorsOf, numbersOf, markedOf, answerOf, svdOf};
 
-// A working state.
+// A working state, and whether a rotation made so far was blind.
 pub struct Working {
     pub a: Mat3,
     pub u: Mat3,
     pub v: Mat3,
     pub made: Made,
+    pub blind: bool,
 }
 
 pub struct Svd3 {
@@ -50,9 +52,13 @@ fn under_limit(largest: OffDiag) -> bool
     largest.size < LIMIT
 }
 
-fn is_settled(a: Mat3) -> bool
-    ensures { λ r. ⌜ r ≡ settledOf F (a .«data») ⌝ }
+// The mark: no rotation was blind, and all sums of a pair's magnitudes are strictly under 2^-44.
+fn is_settled(blind: bool, a: Mat3) -> bool
+    ensures { λ r. ⌜ r ≡ markedOf F blind (a .«data») ⌝ }
 {
+    if blind {
+        return false;
+    }
     under_limit(find_largest_off_diag_nonsym(a))
 }
 
@@ -61,16 +67,23 @@ const MOST: u8 = 25;
 
 // The run (lines 15 to 37).
 fn work(a: Mat3) -> Working
-    ensures { λ w. ⌜ w ≡ working (lastOf F (a .«data»)) ⌝ }
+    ensures { λ w. ⌜ w ≡ working (watchedLastOf F (a .«data»)) ⌝ }
 {
     let mut b = a;
     let mut u = Mat3::zeros().set_identity();
     let mut v = Mat3::zeros().set_identity();
     let mut made = Made { count: 0 };
+    let mut blind = false;
     while made.count < MOST {
         let largest = find_largest_off_diag_nonsym(b);
         if under_limit(largest) {
-            return Working { a: b, u, v, made };
+            return Working {
+                a: b,
+                u,
+                v,
+                made,
+                blind,
+            };
         }
         let p = largest.pair;
         let r = rotation_of(b, p);
@@ -80,8 +93,15 @@ fn work(a: Mat3) -> Working
         made = Made {
             count: made.count + 1,
         };
+        blind = blind | is_blind(r.s12, r.s11, r.s22);
     }
-    Working { a: b, u, v, made }
+    Working {
+        a: b,
+        u,
+        v,
+        made,
+        blind,
+    }
 }
 
 fn refused(code: u8) -> Svd3
@@ -100,7 +120,7 @@ fn refused(code: u8) -> Svd3
 
 // The diagonal's values in order, with their columns (line 39).
 fn factors(w: Working) -> Factors3
-    ensures { λ r. ⌜ r ≡ factors3 (factorsOf (ofWorking w)) ⌝ }
+    ensures { λ r. ⌜ r ≡ factors3 (factorsOf (ofWorking w .state)) ⌝ }
 {
     let a = w.a;
     let u = w.u;
@@ -126,7 +146,7 @@ fn worked_finite(a: Mat3, x: Factors3) -> bool
 
 // The answer, if all its numbers are finite.
 fn judge(w: Working) -> Svd3
-    ensures { λ r. ⌜ r ≡ judged (refusedSvd F) 7 (numbersOf (ofWorking w)) (answerOf F (ofWorking w)) ⌝ }
+    ensures { λ r. ⌜ r ≡ judged (refusedSvd F) 7 (numbersOf (ofWorking w .state)) (answerOf F (ofWorking w)) ⌝ }
 {
     let x = factors(w);
     let a = w.a;
@@ -135,7 +155,7 @@ fn judge(w: Working) -> Svd3
         let values = x.values;
         let u = x.u;
         let v = x.v;
-        let settled = is_settled(a);
+        let settled = is_settled(w.blind, a);
         return Svd3 {
             code: DONE,
             made,

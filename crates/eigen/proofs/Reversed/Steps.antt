@@ -1,21 +1,22 @@
 -- Two matrices that are the same or negated, place by place, stay so through every rotation: the tests and the rotation are the same for both, and what a
--- rotation
--- makes of a matrix is sums and products that keep signs apart. So both runs make as many rotations and turn the vectors alike.
+-- rotation makes of a matrix is sums and products that keep signs apart. So both runs make as many rotations and turn the vectors alike.
 use Rattle.float.proofs.Words.{_≡_, ap, subst₂, _∙_, Bool, List, [], _∷_, ℕ, _<_, Float, Format, lt}
 use Rattle.float.specs.Constants.{limitF}
 use Rattle.float.specs.Sign.{allFinite}
 use Rattle.float.proofs.Negation.{Rel, same, zero-rel, add-rel, sub-rel, mul-rel, magnitude-rel, finite-rel}
 use Rattle.matrix.specs.Places.{at}
 use Rattle.jacobi.specs.Run.{oneMore}
+use Rattle.jacobi.specs.Blind.{Watched}
 use Rattle.jacobi.specs.declared.rotation.Rotation.{Rotation}
 use Rattle.jacobi.specs.declared.pairs.Pair.{Pair}
 use Rattle.jacobi.specs.declared.pairs.Pair.the-variants.{P12, P13, P23}
 use Rattle.jacobi.specs.declared.pairs.OffDiag.{OffDiag}
-use Rattle.jacobi.proofs.Negated.{rotation-same}
+use Rattle.jacobi.proofs.Negated.{blind-same, rotation-same}
 use Rattle.jacobi.proofs.Run.{run-rel}
 use Rattle.jacobi.proofs.Sorted.{below3}
-use Rattle.eigen.specs.Pairs.{apq, app, aqq, offDiagOf, pairOf, turnOf, chosenOf, firstMixed, secondMixed, appliedOf}
-use Rattle.eigen.specs.Eigen3x3.{State, settledOf, nextMatrix, nextVectors, stepOf, runOf, diagonal}
+use Rattle.eigen.specs.Pairs.{apq, app, aqq, offDiagOf, pairOf, turnOf, chosenOf, blindPair, blindAt, firstMixed, secondMixed, appliedOf}
+use Rattle.eigen.specs.Eigen3x3.{State, settledOf, nextMatrix, nextVectors, stepOf, watchedOf, diagonal}
+use Rattle.eigen.proofs.Rounds.{fullStep, fullDone}
 
 -- ---- a packed matrix and the same or its negation
 
@@ -64,6 +65,12 @@ chosen-same {b} {x} {y} f r =
     rotation-same f (apq-rel (pairOf x) r) (app-rel (pairOf x) r) (aqq-rel (pairOf x) r)
     ∙ ap (λ (p : Pair). turnOf f p y) (pair-same r)
 
+blind-at-same : {b : Bool} {x y : List Float} (f : Format) → Related b x y → blindAt f x ≡ blindAt f y
+unfolding blindAt
+blind-at-same {b} {x} {y} f r =
+    blind-same f (apq-rel (pairOf x) r) (app-rel (pairOf x) r) (aqq-rel (pairOf x) r)
+    ∙ ap (λ (p : Pair). blindPair f p y) (pair-same r)
+
 -- ---- one rotation
 
 module _ (f : Format) (t : Rotation) {b : Bool} where
@@ -106,6 +113,16 @@ step-alike b f s q r = record {
   made = ap oneMore (r .made);
 }
 
-pub run-alike : (b : Bool) (f : Format) (k : ℕ) (s q : State) → Alike b s q → Alike b (runOf f k s) (runOf f k q)
-unfolding runOf
-run-alike b f = run-rel (stepOf f) (λ (s : State). settledOf f (s .matrix)) (Alike b) (λ s q r. settled-same f (r .matrices)) (step-alike b f)
+-- and both have made a blind rotation, or none
+pub record BothWatched (b : Bool) (w q : Watched State) : Type 0 where
+  pub states : Alike b (w .state) (q .state)
+  pub blind : w .blind ≡ q .blind
+
+pub run-alike : (b : Bool) (f : Format) (k : ℕ) (w q : Watched State) → BothWatched b w q → BothWatched b (watchedOf f k w) (watchedOf f k q)
+unfolding watchedOf
+run-alike b f =
+    run-rel (fullStep f) (fullDone f) (BothWatched b) (λ w q r. settled-same f (r .states .matrices))
+    (λ w q r. record {
+      states = step-alike b f (w .state) (q .state) (r .states);
+      blind = cc (r .blind, blind-at-same f (r .states .matrices));
+    })

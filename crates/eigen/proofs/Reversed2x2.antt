@@ -1,0 +1,96 @@
+-- Code and mark of a 2x2 matrix and of its negation are the same. Both make the same rotation, which is blind for both or for none; the values of one are those
+-- of the other, negated; and the order only moves numbers. So all numbers of one answer are finite exactly where all those of the other are.
+use Rattle.float.proofs.Words.{_≡_, refl, sym, ap, _∙_, subst₂, true, List, length, Float, Format}
+use Rattle.float.specs.Width.{F}
+use Rattle.float.specs.Sign.{allFinite}
+use Rattle.float.proofs.Finite.{lists-finite}
+use Rattle.float.proofs.Judged.{both-judged}
+use Rattle.float.proofs.Negation.{Rel, same, negation, add-rel, sub-rel, mul-rel, finite-rel}
+use Rattle.matrix.specs.Places.{at, negatedOf}
+use Rattle.matrix.specs.declared.symmetric.Sym2.{Sym2}
+use Rattle.matrix.proofs.Tables.{negated-finite}
+use Rattle.jacobi.specs.declared.rotation.Rotation.{Rotation}
+use Rattle.jacobi.proofs.Negated.{blind-same, rotation-same}
+use Rattle.jacobi.proofs.Moves.{values-finite, columns-finite}
+use Rattle.eigen.specs.Eigen2x2.{turn2Of, blind2Of, lowerOf, upperOf, solved2, refused2, numbers2Of, answer2Of, end2Of, eigen2Of}
+use Rattle.eigen.specs.EigVals.{refusedValues2, values2Of, valuesEnd2Of, eigvals2Of}
+use Rattle.eigen.specs.Ordered.{rotationAxes}
+use Rattle.eigen.specs.Reversed2x2.{SameCodeAndMark, SameValuesCodeAndMark}
+use Rattle.eigen.specs.declared.eigen2x2.Eigen2.{Eigen2}
+use Rattle.eigen.specs.declared.eigen2x2.EigVals2.{EigVals2}
+use Rattle.eigen.proofs.Moved.{same-permutation2}
+use Rattle.eigen.proofs.Full.{solved-full}
+use Rattle.eigen.proofs.eigen2x2.eigen.Reads as eigen
+use Rattle.eigen.proofs.eigen2x2.eigvals.Reads as eigvals
+
+-- ---- a matrix a and its negation: the same rotation, and values that are negated
+
+module _ (f : Format) (a : List Float) where
+  abbrev minus : List Float
+  minus = negatedOf 3 a
+
+  turn-same : turn2Of f a ≡ turn2Of f minus
+  turn-same = rotation-same f (negation (at a 1)) (negation (at a 0)) (negation (at a 2))
+
+  blind2-same : blind2Of f a ≡ blind2Of f minus
+  blind2-same = blind-same f (negation (at a 1)) (negation (at a 0)) (negation (at a 2))
+
+  lower-rel : (r : Rotation) → Rel true (lowerOf f r a) (lowerOf f r minus)
+  lower-rel r = sub-rel f (negation (at a 0)) (mul-rel f (same (r .t)) (negation (at a 1)))
+
+  upper-rel : (r : Rotation) → Rel true (upperOf f r a) (upperOf f r minus)
+  upper-rel r = add-rel f (negation (at a 2)) (mul-rel f (same (r .t)) (negation (at a 1)))
+
+  -- ---- finite together: the values, the vectors
+
+  solved-values : allFinite (solved2 f a .values) ≡ allFinite (solved2 f minus .values)
+  unfolding allFinite
+  solved-values =
+      let axes : allFinite (rotationAxes f a .values) ≡ allFinite (rotationAxes f minus .values) =
+      cc (turn-same, finite-rel (lower-rel (turn2Of f a)), finite-rel (upper-rel (turn2Of f a))) in
+      sym (values-finite (same-permutation2 f a) refl (solved-full f a .0)) ∙ axes ∙ values-finite (same-permutation2 f minus) refl (solved-full f minus .0)
+
+  solved-vectors : allFinite (solved2 f a .carried) ≡ allFinite (solved2 f minus .carried)
+  solved-vectors =
+      let axes : rotationAxes f a .carried ≡ rotationAxes f minus .carried = cc turn-same in
+      sym (columns-finite (same-permutation2 f a) refl (solved-full f a .1)) ∙ ap allFinite axes
+      ∙ columns-finite (same-permutation2 f minus) refl (solved-full f minus .1)
+
+-- ---- both calls, for every matrix of three numbers, finite or not, and in either format
+
+pub reversed2 : (f : Format) (a : List Float) → length a ≡ 3 → SameCodeAndMark (eigen2Of f a) (eigen2Of f (negatedOf 3 a))
+unfolding eigen2Of end2Of
+reversed2 f a n =
+    let b = negatedOf 3 a in
+    let x = solved2 f a in
+    let y = solved2 f b in
+    both-judged SameCodeAndMark (refused2 f) 5 a b _ _ (negated-finite 3 a n)
+    (λ _. both-judged SameCodeAndMark (refused2 f) 7 (numbers2Of x) (numbers2Of y) (answer2Of (blind2Of f a) x) (answer2Of (blind2Of f b) y)
+    (lists-finite (x .values) (y .values) (x .carried) (y .carried) (solved-values f a) (solved-vectors f a))
+    (λ _. record { codes = refl; marks = cc (blind2-same f a) })
+    (record { codes = refl; marks = refl }))
+    (record { codes = refl; marks = refl })
+
+pub values-reversed2 : (f : Format) (a : List Float) → length a ≡ 3 → SameValuesCodeAndMark (eigvals2Of f a) (eigvals2Of f (negatedOf 3 a))
+unfolding eigvals2Of valuesEnd2Of
+values-reversed2 f a n =
+    let b = negatedOf 3 a in
+    let x = solved2 f a .values in
+    let y = solved2 f b .values in
+    both-judged SameValuesCodeAndMark (refusedValues2 f) 5 a b _ _ (negated-finite 3 a n)
+    (λ _. both-judged SameValuesCodeAndMark (refusedValues2 f) 7 x y (values2Of (blind2Of f a) x) (values2Of (blind2Of f b) y) (solved-values f a)
+    (λ _. record { codes = refl; marks = cc (blind2-same f a) })
+    (record { codes = refl; marks = refl }))
+    (record { codes = refl; marks = refl })
+
+-- ---- the calls: any answers within the promises that the source states
+
+-- A matrix of the source holds three numbers. Here its numbers are a list, so their count is a premise.
+pub reversed2-wiring : (a b : Sym2) → length (a .«data») ≡ 3 → b .«data» ≡ negatedOf 3 (a .«data»)
+    → (r q : Eigen2) → eigen.Post tt (a, tt) r (a, tt) → eigen.Post tt (b, tt) q (b, tt) → SameCodeAndMark r q
+reversed2-wiring a b h e r q p s = subst₂ SameCodeAndMark (sym p) (sym (s ∙ ap (eigen2Of F) e)) (reversed2 F (a .«data») h)
+
+pub values-reversed2-wiring : (a b : Sym2) → length (a .«data») ≡ 3 → b .«data» ≡ negatedOf 3 (a .«data»)
+    → (r q : EigVals2) → eigvals.Post tt (a, tt) r (a, tt) → eigvals.Post tt (b, tt) q (b, tt) → SameValuesCodeAndMark r q
+values-reversed2-wiring a b h e r q p s =
+    subst₂ SameValuesCodeAndMark (sym p) (sym (s ∙ ap (eigvals2Of F) e)) (values-reversed2 F (a .«data») h)
