@@ -12,8 +12,8 @@ use crate::numbers::{
 };
 use crate::random::Random;
 use crate::rotations::{
-    a_pair, choice, count_length, count_order, count_pair, exchanges, pair_of, Applied, Largest,
-    LIMIT, MOST, PAIRS,
+    a_pair, blind, choice, count_length, count_order, count_pair, exchanges, pair_of, Applied,
+    Largest, LIMIT, MOST, PAIRS,
 };
 use crate::shapes::{
     any_exponents, any_subnormal, evenly, isotropic_parts, one_exponent, rotation, some_subnormal,
@@ -359,13 +359,14 @@ fn moment(random: &mut Random) -> f64 {
     }
 }
 
-/// The end of a run.
+/// The end of a run, with whether its last matrix is settled, and whether one of its rotations was blind.
 pub struct Run {
     pub a: DenseMatrixSym3<f64>,
     pub v: DenseMatrix3<f64>,
     pub values: [f64; 3],
     pub count: u64,
     pub settled: bool,
+    pub blind: bool,
 }
 
 /// The run of `eigen_jacobi`, made of the crate's own steps, with its count. Shows the matrix before each rotation, and the place
@@ -374,7 +375,7 @@ pub fn run(a: [f64; 6], mut show: impl FnMut(&DenseMatrixSym3<f64>, usize)) -> R
     let mut a = DenseMatrixSym3 { data: a };
     let mut v = DenseMatrix3::zeros();
     v.set_identity();
-    let mut count = 0;
+    let (mut count, mut one_blind) = (0, false);
     while count < MOST {
         let (at, p, q, size) = find_largest_off_diag(&a);
         if size < LIMIT {
@@ -382,6 +383,7 @@ pub fn run(a: [f64; 6], mut show: impl FnMut(&DenseMatrixSym3<f64>, usize)) -> R
         }
         show(&a, at);
         let (apq, app, aqq) = get_rotation_elements(&a, at);
+        one_blind |= blind(apq, app, aqq);
         let (c, s, t) = compute_jacobi_rotation(apq, app, aqq);
         apply_rotation(&mut a, at, c, s, t);
         update_eigenvectors(&mut v, p, q, c, s);
@@ -395,10 +397,15 @@ pub fn run(a: [f64; 6], mut show: impl FnMut(&DenseMatrixSym3<f64>, usize)) -> R
         values,
         count,
         settled,
+        blind: one_blind,
     }
 }
 
 impl Run {
+    pub fn mark(&self) -> bool {
+        self.settled && !self.blind
+    }
+
     /// Whether all that is handed back is finite, with the vectors or without.
     pub fn is_finite(&self, vectors: bool) -> bool {
         all_finite(&self.a.data) && (!vectors || all_finite(&self.v.data))
@@ -424,7 +431,7 @@ fn answered(input: &[u64], vectors: bool, out: &mut [u64], hits: &mut Hits) -> O
     count_end(&end, hits);
     out[0] = DONE;
     out[1] = end.count;
-    out[2] = u64::from(end.settled);
+    out[2] = u64::from(end.mark());
     put(&mut out[3..], &end.values);
     Some(end)
 }
@@ -461,11 +468,18 @@ fn same_as_plain(given: [f64; 6], end: &Run) {
     }
 }
 
+/// Where a packed matrix has the numbers beside the diagonal.
+const BESIDE: [usize; 3] = [1, 3, 4];
+
+/// The place among the three pairs of the one that stands there.
+pub fn pair_at(at: usize) -> usize {
+    BESIDE.iter().position(|i| *i == at).expect("a pair")
+}
+
 fn count_rotation(a: &DenseMatrixSym3<f64>, at: usize, hits: &mut Hits) {
-    let beside = [1, 3, 4];
-    let pair = beside.iter().position(|i| *i == at).expect("a pair");
-    let sizes = beside.map(|i| a.data[i].abs());
-    count_pair(Eigen::Pair12 as usize, pair, sizes, a.data[at].abs(), hits);
+    let sizes = BESIDE.map(|i| a.data[i].abs());
+    let (pair, largest) = (pair_at(at), a.data[at].abs());
+    count_pair(Eigen::Pair12 as usize, pair, sizes, largest, hits);
     let (apq, app, aqq) = get_rotation_elements(a, at);
     hits.hit(Eigen::Tiny as usize + choice(apq, app, aqq) as usize);
 }
@@ -574,6 +588,11 @@ pub fn call2(given: [f64; 3], vectors: bool) -> Option<([f64; 2], [f64; 4])> {
     (all_finite(&values) && all_finite(&v.data)).then_some((values, v.data))
 }
 
+/// The mark of the one rotation.
+pub fn mark2([app, apq, aqq]: [f64; 3]) -> bool {
+    !blind(apq, app, aqq)
+}
+
 fn answered2(input: &[u64], vectors: bool, out: &mut [u64], hits: &mut Hits) -> Option<[f64; 4]> {
     let given = numbers::<3>(input);
     out.fill(0);
@@ -598,7 +617,7 @@ fn answered2(input: &[u64], vectors: bool, out: &mut [u64], hits: &mut Hits) -> 
         Ordering::Equal => Eigen2::Tie,
     } as usize);
     out[0] = DONE;
-    out[1] = 1;
+    out[1] = u64::from(mark2(given));
     put(&mut out[2..], &values);
     Some(v)
 }
@@ -655,7 +674,7 @@ fn largest(input: &[u64], out: &mut [u64], hits: &mut Hits) {
     let pair = pair.expect("a pair");
     out[0] = PAIRS[pair].0;
     put(&mut out[1..], &[size]);
-    Largest::count(pair, [1, 3, 4].map(|i| a.data[i].abs()), size, hits);
+    Largest::count(pair, BESIDE.map(|i| a.data[i].abs()), size, hits);
 }
 
 // a pair; cosine, sine, tangent; the matrix, which comes out rotated

@@ -1,4 +1,4 @@
-//! The golden list of the operations: for each one of the probe its subject's inputs, with the right answers. The list is fixed.
+//! The golden list of the operations: for each one of the probe its subjects' inputs, with the right answers. The list is fixed.
 
 use crate::codes::{
     ANSWER_NOT_FINITE, DONE, INPUT_LENGTH, INPUT_NOT_FINITE, NAN_PIVOT, OUTPUT_LENGTH, OUTSIDE,
@@ -38,15 +38,21 @@ pub fn write(input: &str, output: &str) -> io::Result<bool> {
     let mut output = BufWriter::new(File::create(output)?);
     let mut all: Vec<&Subject> = subjects::all().collect();
     all.sort_by_key(|subject| subject.operation);
+    // subjects of one operation share its job
+    let jobs: Vec<&[&Subject]> = all.chunk_by(|a, b| a.operation == b.operation).collect();
     let (mut total, mut whole) = (0, true);
-    for (place, subject) in all.iter().enumerate() {
-        let (cases, hits) = cases_of(subject);
-        whole &= show(subject, &cases, &hits);
+    for (place, job) in jobs.iter().enumerate() {
+        let mut cases = Vec::new();
+        for subject in *job {
+            let (own, hits) = cases_of(subject);
+            whole &= show(subject, &own, &hits);
+            cases.extend(own);
+        }
         total += cases.len();
-        let last = place + 1 == all.len();
+        let last = place + 1 == jobs.len();
         let count = if last { 0 } else { cases.len() as u32 };
-        let (n, m) = (subject.words_in as u8, subject.words_out as u8);
-        input.write_all(&[subject.operation, n, m, 0])?;
+        let (n, m) = (job[0].words_in as u8, job[0].words_out as u8);
+        input.write_all(&[job[0].operation, n, m, 0])?;
         input.write_all(&count.to_le_bytes())?;
         for case in &cases {
             write_words(&mut input, &case.input)?;
@@ -54,7 +60,7 @@ pub fn write(input: &str, output: &str) -> io::Result<bool> {
         }
     }
     input.write_all(&[1; PART])?;
-    println!("{} operations, {total} cases", all.len());
+    println!("{} operations, {total} cases", jobs.len());
     input.flush().and(output.flush()).map(|()| whole)
 }
 

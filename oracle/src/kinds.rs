@@ -69,6 +69,11 @@ impl Kind {
         subjects::named(self.subject).expect("a subject of that name")
     }
 
+    /// The subject that looks at the mark of the same call, where the kind rotates. The mark of the others is 1.
+    pub fn mark(&self) -> Option<&'static Subject> {
+        subjects::named(&format!("{}_mark", self.subject))
+    }
+
     /// So many of the subject's words come before the record's numbers: an old factor, which a record does not have.
     pub fn before(&self) -> usize {
         self.subject().words_in - self.nine - self.three
@@ -109,7 +114,7 @@ pub fn refused(code: u64) -> Refused {
     }
 }
 
-/// An answer with no count of rotations, and settled.
+/// An answer with no count of rotations, and settled, as each of the factors is.
 fn worked(values: &[f64], left: &[f64], right: &[f64]) -> Worked {
     Worked {
         count: 0,
@@ -129,8 +134,12 @@ fn first<const K: usize>(numbers: &[f64]) -> [f64; K] {
 }
 
 fn eigen2(nine: &[f64; 9], _: &[f64; 3]) -> Answer {
-    match eigen::call2(first(nine), true) {
-        Some((values, vectors)) => Ok(worked(&values, &vectors, &[])),
+    let a = first(nine);
+    match eigen::call2(a, true) {
+        Some((values, vectors)) => Ok(Worked {
+            settled: eigen::mark2(a),
+            ..worked(&values, &vectors, &[])
+        }),
         None => Err(refused(ANSWER_NOT_FINITE)),
     }
 }
@@ -142,14 +151,18 @@ fn eigen3(nine: &[f64; 9], _: &[f64; 3]) -> Answer {
     }
     Ok(Worked {
         count: end.count as u8,
-        settled: end.settled,
+        settled: end.mark(),
         ..worked(&end.values, &end.v.data, &[])
     })
 }
 
 fn svd2(nine: &[f64; 9], _: &[f64; 3]) -> Answer {
-    match svd::call2(first(nine)) {
-        Some((values, u, v)) => Ok(worked(&values, &u, &v)),
+    let a = first(nine);
+    match svd::call2(a) {
+        Some((values, u, v)) => Ok(Worked {
+            settled: svd::mark2(a),
+            ..worked(&values, &u, &v)
+        }),
         None => Err(refused(ANSWER_NOT_FINITE)),
     }
 }
@@ -161,7 +174,7 @@ fn svd3(nine: &[f64; 9], _: &[f64; 3]) -> Answer {
     }
     Ok(Worked {
         count: end.count as u8,
-        settled: end.settled,
+        settled: end.mark(),
         ..worked(&end.values, &end.u.data, &end.v.data)
     })
 }

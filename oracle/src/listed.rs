@@ -4,6 +4,7 @@ use crate::cholesky::NAN_PIVOTS;
 use crate::eigen::isotropic;
 use crate::float::{HIDDEN, INFINITY, NAN, SIGN};
 use crate::kinds::Kind;
+use crate::marks;
 use crate::numbers::power_of_two;
 use crate::places::{of_its_subject, unused_place, used_place, with_words};
 use crate::random::Random;
@@ -26,6 +27,7 @@ pub fn listed() -> Vec<Request> {
         all.extend(not_finite(kind));
     }
     all.extend(nan_pivots());
+    all.extend((1..=4).flat_map(blind_rotations));
     for (number, request) in all.iter_mut().enumerate().skip(1) {
         // so that all four bytes of the event's number are used
         request.event = (number as u32).wrapping_mul(0x9E37_79B1);
@@ -242,4 +244,11 @@ fn nan_pivots() -> Vec<Request> {
         }
     }
     all
+}
+
+/// What the kind's mark turns on, with all that the subject of its mark lists.
+fn blind_rotations(kind: u8) -> Vec<Request> {
+    let of = Kind::of(kind).expect("a known kind");
+    let listed = marks::listed(of.subject().operation);
+    listed.iter().map(|a| with_numbers(kind, a)).collect()
 }

@@ -12,6 +12,7 @@ mod in_place;
 mod kinds;
 mod lent;
 mod listed;
+mod marks;
 mod matrix;
 mod met;
 mod modules;

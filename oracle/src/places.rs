@@ -3,7 +3,7 @@
 use crate::kinds::{Kind, KINDS};
 use crate::random::Random;
 use crate::record::Request;
-use crate::subject::Hits;
+use crate::subject::{Hits, Subject};
 
 /// A place that the kind does not use, counted through the nine and then the three.
 pub fn unused_place<'a>(of: &Kind, request: &'a mut Request, number: usize) -> &'a mut u64 {
@@ -25,8 +25,12 @@ pub fn used_place<'a>(of: &Kind, request: &'a mut Request, number: usize) -> &'a
 
 /// The input with this number of the kind's subject; beyond its listed ones it is one at random.
 pub fn of_its_subject(random: &mut Random, kind: u8, number: u64) -> Request {
+    of_subject(random, kind, KINDS[usize::from(kind) - 1].subject(), number)
+}
+
+/// The same of a subject with the kind's call.
+pub fn of_subject(random: &mut Random, kind: u8, subject: &Subject, number: u64) -> Request {
     let of = &KINDS[usize::from(kind) - 1];
-    let subject = of.subject();
     let mut words = [0; 40];
     let words = &mut words[..subject.words_in];
     let mut uncounted = Hits(vec![0; subject.branches.len()]);

@@ -5,9 +5,9 @@ use crate::kinds::Kind;
 use crate::numbers::number;
 use crate::places::of_its_subject;
 use crate::random::Random;
-use crate::record::{answer, Request, CODE_AT, COUNT_AT, NUMBERS_AT, REQUEST_BYTES};
+use crate::record::{answer, Request, CODE_AT, COUNT_AT, NUMBERS_AT, REQUEST_BYTES, SETTLED_AT};
 use crate::stream::read_record;
-use crate::subject::Hits;
+use crate::subject::{Hits, Subject};
 use std::io::{self, Read};
 
 /// The hits of one kind.
@@ -15,6 +15,8 @@ struct Reached {
     of: &'static Kind,
     /// Of the subject with the same call.
     subject: Hits,
+    /// Of the subject of its mark, where there is one.
+    mark: Hits,
     /// For each reserved byte, and each number that is not used, the requests where nothing but this is refused; and the same for
     /// each number that is used and not finite.
     reserved: [u64; 3],
@@ -41,12 +43,18 @@ pub fn show(input: &mut impl Read) -> io::Result<bool> {
     Ok(missed == 0)
 }
 
+/// No hits of a subject's branches.
+fn none(subject: Option<&Subject>) -> Hits {
+    Hits(vec![0; subject.map_or(0, |one| one.branches.len())])
+}
+
 impl Reached {
     fn new(kind: u8) -> Self {
         let of = Kind::of(kind).expect("a known kind");
         Self {
             of,
-            subject: Hits(vec![0; of.subject().branches.len()]),
+            subject: none(Some(of.subject())),
+            mark: none(of.mark()),
             reserved: [0; 3],
             unused: [0; 12],
             not_finite: [0; 12],
@@ -71,6 +79,9 @@ impl Reached {
             self.not_finite[*place] += 1;
         }
         self.ask_subject(request);
+        if let Some(mark) = self.of.mark() {
+            self.ask_mark(request, mark);
+        }
     }
 
     fn ask_subject(&mut self, request: &Request) {
@@ -97,6 +108,16 @@ impl Reached {
         }
     }
 
+    /// The mark is the one of its subject, which goes by the rotations one by one.
+    fn ask_mark(&mut self, request: &Request, subject: &Subject) {
+        let input = &request.nine[..self.of.nine];
+        let mut right = vec![0; subject.words_out];
+        (subject.answer)(input, &mut right, &mut self.mark);
+        let place = 1 + usize::from(self.of.counts);
+        let mark = u64::from(answer(&request.bytes())[SETTLED_AT]);
+        assert_eq!(mark, right[place], "not the mark, of {input:X?}");
+    }
+
     /// Prints the counts, and says how many are 0 that need not be.
     fn print(&self) -> usize {
         let mut missed = 0;
@@ -114,11 +135,15 @@ impl Reached {
                 line(&format!("4: by {} alone", place(i)), self.unused[i]);
             }
         }
-        let subject = self.of.subject();
-        for (branch, count) in subject.branches.iter().zip(&self.subject.0) {
+        let branches = self.of.subject().branches.iter();
+        for (branch, count) in branches.zip(&self.subject.0) {
             if of_records(branch) {
                 line(branch, *count);
             }
+        }
+        let branches = self.of.mark().map_or(&[][..], |mark| mark.branches);
+        for (branch, count) in branches.iter().zip(&self.mark.0) {
+            line(branch, *count);
         }
         if self.of.three > 0 {
             line("0: -0 in the solution", self.minus_zero);

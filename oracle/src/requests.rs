@@ -5,21 +5,27 @@ use crate::kinds::Kind;
 use crate::listed::listed;
 use crate::nights;
 use crate::numbers::{finite, not_finite};
-use crate::places::{of_its_subject, unused_place, used_place};
+use crate::places::{of_its_subject, of_subject, unused_place, used_place};
 use crate::random::Random;
 use crate::record::{Request, REQUEST_BYTES};
 use std::io::{self, Write};
 
 /// The golden list: so many requests of this seed.
-pub const GOLDEN: (u64, u64) = (4184, 1);
+pub const GOLDEN: (u64, u64) = (5397, 1);
+
+/// One in so many of the random requests is about a mark.
+const MARKS: u64 = 16;
 
 /// Writes so many whole requests, and a part of a further one.
 pub fn write(count: u64, seed: u64, output: &mut impl Write) -> io::Result<()> {
     let mut random = Random::new(seed);
+    // random numbers of their own, so that these leave the other requests as they are
+    let mut of_marks = Random::new(!seed);
     let listed = listed();
     for number in 0..count {
         let request = match listed.get(number as usize) {
             Some(request) => *request,
+            None if number % MARKS == 0 => about_a_mark(&mut of_marks),
             None => any(&mut random),
         };
         output.write_all(&request.bytes())?;
@@ -44,6 +50,15 @@ pub fn any(random: &mut Random) -> Request {
         3 => spoil_all(random, &mut request),
         _ => {}
     }
+    request
+}
+
+/// A request on one side or the other of a blind rotation.
+fn about_a_mark(random: &mut Random) -> Request {
+    let kind = 1 + random.below(4) as u8;
+    let mark = Kind::of(kind).and_then(Kind::mark).expect("a mark");
+    let mut request = of_subject(random, kind, mark, u64::MAX);
+    request.event = event(random);
     request
 }
 

@@ -59,6 +59,14 @@ pub fn choice(apq: f64, app: f64, aqq: f64) -> Choice {
     }
 }
 
+/// Whether a rotation is blind: the number beside the diagonal is not zero, the larger magnitude on the diagonal is under 2^-52, and
+/// the two numbers on it differ. Then it turns by 45 degrees whatever their difference is, and what it takes for gone is still there.
+/// Both zeros are one number, and a NaN is under nothing.
+pub fn blind(apq: f64, app: f64, aqq: f64) -> bool {
+    let under = |x: f64| x.abs() < f64::EPSILON;
+    apq != 0.0 && under(app) && under(aqq) && app != aqq
+}
+
 /// Which of an order's three comparisons exchange: 1 with 2, then 1 with 3, then 2 with 3.
 pub fn exchanges(mut values: [f64; 3], exchange: fn(&f64, &f64) -> bool) -> [bool; 3] {
     PAIRS.map(|(_, p, q)| {

@@ -4,6 +4,7 @@ use crate::cholesky;
 use crate::eigen;
 use crate::float;
 use crate::in_place;
+use crate::marks;
 use crate::matrix;
 use crate::root;
 use crate::subject::Subject;
@@ -18,6 +19,7 @@ const SUBJECTS: &[&[Subject]] = &[
     eigen::SUBJECTS,
     in_place::SUBJECTS,
     svd::SUBJECTS,
+    marks::SUBJECTS,
 ];
 
 pub fn all() -> impl Iterator<Item = &'static Subject> {

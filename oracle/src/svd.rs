@@ -15,8 +15,8 @@ use crate::numbers::{
 };
 use crate::random::Random;
 use crate::rotations::{
-    a_pair, choice, count_length, count_order, count_pair, exchanges, pair_of, Applied, Largest,
-    LIMIT, MOST, PAIRS,
+    a_pair, blind, choice, count_length, count_order, count_pair, exchanges, pair_of, Applied,
+    Largest, LIMIT, MOST, PAIRS,
 };
 use crate::shapes::{
     any_exponents, any_subnormal, evenly, isotropic_parts, one_exponent, rotation, some_subnormal,
@@ -326,7 +326,7 @@ fn geophone(random: &mut Random) -> [f64; 9] {
     [c, s, 0.0, -s * d, c * d, t, s * t, -c * t, d]
 }
 
-/// The end of a run.
+/// The end of a run, with whether its last matrix is settled, and whether one of its rotations was blind.
 pub struct Run {
     pub a: DenseMatrix3<f64>,
     pub u: DenseMatrix3<f64>,
@@ -334,9 +334,14 @@ pub struct Run {
     pub values: [f64; 3],
     pub count: u64,
     pub settled: bool,
+    pub blind: bool,
 }
 
 impl Run {
+    pub fn mark(&self) -> bool {
+        self.settled && !self.blind
+    }
+
     pub fn is_finite(&self) -> bool {
         [&self.a, &self.u, &self.v]
             .iter()
@@ -351,15 +356,17 @@ pub fn run(a: [f64; 9], mut show: impl FnMut(&DenseMatrix3<f64>, usize, usize)) 
     let mut v = DenseMatrix3::zeros();
     u.set_identity();
     v.set_identity();
-    let mut count = 0;
+    let (mut count, mut one_blind) = (0, false);
     while count < MOST {
         let (p, q, size) = find_largest_off_diag_nonsym(&a);
         if size < LIMIT {
             break;
         }
         show(&a, p, q);
-        let (cl, sl, cr, sr, d1, d2) =
-            compute_two_sided_rotation(a[(p, p)], a[(q, p)], a[(p, q)], a[(q, q)]);
+        let (app, aqp, apq, aqq) = (a[(p, p)], a[(q, p)], a[(p, q)], a[(q, q)]);
+        let (s12, s11, s22) = symmetrised(app, aqp, apq, aqq);
+        one_blind |= blind(s12, s11, s22);
+        let (cl, sl, cr, sr, d1, d2) = compute_two_sided_rotation(app, aqp, apq, aqq);
         apply_two_sided_rotation(&mut a, p, q, cl, sl, cr, sr, d1, d2);
         update_eigenvectors(&mut u, p, q, cl, sl);
         update_eigenvectors(&mut v, p, q, cr, sr);
@@ -374,7 +381,14 @@ pub fn run(a: [f64; 9], mut show: impl FnMut(&DenseMatrix3<f64>, usize, usize)) 
         values,
         count,
         settled,
+        blind: one_blind,
     }
+}
+
+/// The symmetrised pair, by the crate's polar step: the numbers that the rotation is chosen by, and in that order.
+pub fn symmetrised(app: f64, aqp: f64, apq: f64, aqq: f64) -> (f64, f64, f64) {
+    let (_, _, s11, s12, s22) = compute_polar_2x2(app, aqp, apq, aqq);
+    (s12, s11, s22)
 }
 
 fn svd3(input: &[u64], out: &mut [u64], hits: &mut Hits) {
@@ -393,7 +407,7 @@ fn svd3(input: &[u64], out: &mut [u64], hits: &mut Hits) {
     count_end(&end, hits);
     out[0] = DONE;
     out[1] = end.count;
-    out[2] = u64::from(end.settled);
+    out[2] = u64::from(end.mark());
     put(&mut out[3..], &end.values);
     put(&mut out[6..], &end.u.data);
     put(&mut out[15..], &end.v.data);
@@ -429,12 +443,12 @@ fn count_rotation(a: &DenseMatrix3<f64>, p: usize, q: usize, hits: &mut Hits) {
     count_pair(Svd::Pair12 as usize, pair, sizes, sizes[pair], hits);
     let (app, aqp, apq, aqq) = (a[(p, p)], a[(q, p)], a[(p, q)], a[(q, q)]);
     hits.hit(Svd::PolarNone as usize + size_kind(app, aqp, apq, aqq));
-    let (_, _, s11, s12, s22) = compute_polar_2x2(app, aqp, apq, aqq);
+    let (s12, s11, s22) = symmetrised(app, aqp, apq, aqq);
     hits.hit(Svd::Tiny as usize + choice(s12, s11, s22) as usize);
 }
 
 /// The pair's place among the three.
-fn pair_at(p: usize, q: usize) -> usize {
+pub fn pair_at(p: usize, q: usize) -> usize {
     let found = PAIRS.iter().position(|pair| (pair.1, pair.2) == (p, q));
     found.expect("a pair")
 }
@@ -591,6 +605,12 @@ pub fn call2(given: [f64; 4]) -> Option<([f64; 2], [f64; 4], [f64; 4])> {
     finite.then_some((values, u.data, v.data))
 }
 
+/// The mark of the one rotation.
+pub fn mark2([app, aqp, apq, aqq]: [f64; 4]) -> bool {
+    let (s12, s11, s22) = symmetrised(app, aqp, apq, aqq);
+    !blind(s12, s11, s22)
+}
+
 fn svd2(input: &[u64], out: &mut [u64], hits: &mut Hits) {
     let given = numbers::<4>(input);
     out.fill(0);
@@ -600,7 +620,7 @@ fn svd2(input: &[u64], out: &mut [u64], hits: &mut Hits) {
     }
     let [app, aqp, apq, aqq] = given;
     hits.hit(Svd2::PolarNone as usize + size_kind(app, aqp, apq, aqq));
-    let (_, _, s11, s12, s22) = compute_polar_2x2(app, aqp, apq, aqq);
+    let (s12, s11, s22) = symmetrised(app, aqp, apq, aqq);
     hits.hit(Svd2::Tiny as usize + choice(s12, s11, s22) as usize);
     let Some((values, u, v)) = call2(given) else {
         out[0] = ANSWER_NOT_FINITE;
@@ -623,7 +643,7 @@ fn svd2(input: &[u64], out: &mut [u64], hits: &mut Hits) {
         }
     }
     out[0] = DONE;
-    out[1] = 1;
+    out[1] = u64::from(mark2(given));
     put(&mut out[2..], &values);
     put(&mut out[4..], &u);
     put(&mut out[8..], &v);

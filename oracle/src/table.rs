@@ -2,7 +2,8 @@
 
 use crate::codes::{ANSWER_NOT_FINITE, DONE, INPUT_LENGTH, KIND, NAN_PIVOT, OF_RECORDS, PIVOT};
 use crate::kinds::{row_of, KINDS, OTHER, ROWS};
-use crate::record::{ANSWER_BYTES, CODE_AT, COUNT_AT, KIND_AT, REQUEST_BYTES};
+use crate::record::{ANSWER_BYTES, CODE_AT, COUNT_AT, KIND_AT, REQUEST_BYTES, SETTLED_AT};
+use crate::rotations::MOST;
 use crate::stream::read_record;
 use crate::tally::{Answer, Tally};
 use std::fs::File;
@@ -39,6 +40,11 @@ fn pivots(row: usize) -> usize {
     }
 }
 
+/// Whether answers of a kind can be unsettled: those of the kinds that rotate. A factor's never are.
+fn rotates(row: usize) -> bool {
+    (1..=4).contains(&row)
+}
+
 /// So many faults are shown.
 const SHOWN: usize = 40;
 
@@ -47,6 +53,8 @@ struct Table {
     tally: Tally,
     /// Of each code of pivots, by the pivot's number.
     pivots: [[[u64; 4]; OF_PIVOTS.len()]; ROWS],
+    /// Of the unsettled answers, those with the most rotations. Each of the others has a blind one.
+    unsettled_at_most: [u64; ROWS],
     /// What is not right, or was never met.
     faults: Vec<String>,
 }
@@ -57,11 +65,13 @@ pub fn show(requests: &str, answers: &str) -> io::Result<bool> {
     let mut table = Table {
         tally: Tally::default(),
         pivots: [[[0; 4]; OF_PIVOTS.len()]; ROWS],
+        unsettled_at_most: [0; ROWS],
         faults: Vec::new(),
     };
     table.read(requests, answers)?;
     table.print_cells();
     table.print_pivots();
+    table.print_marks();
     table.print_rotations();
     for fault in table.faults.iter().take(SHOWN) {
         println!("table: {fault}");
@@ -106,6 +116,8 @@ impl Table {
         let (row, code) = (row_of(answer[KIND_AT]), u64::from(answer[CODE_AT]));
         let (count, foreign) = (answer[COUNT_AT], self.tally.foreign);
         self.tally.count(answer).expect("a count of 64 bits");
+        let at_most = code == DONE && answer[SETTLED_AT] == 0 && u64::from(count) == MOST;
+        self.unsettled_at_most[row] += u64::from(at_most);
         let of_pivots = OF_PIVOTS.iter().position(|(one, _)| *one == code);
         let counts: &mut [u64] = match of_pivots {
             Some(place) => &mut self.pivots[row][place],
@@ -168,16 +180,25 @@ impl Table {
         }
     }
 
-    fn print_rotations(&mut self) {
+    fn print_marks(&mut self) {
         for row in 1..ROWS {
-            // less than the most are made only where the end is settled, and the other kinds always are
-            let counted = KINDS[row - 1].counts;
-            let (name, of) = (name(row), self.tally.rows[row]);
-            let not = self.cell(format!("{name}, not settled"), of.unsettled, counted);
-            if !counted {
-                continue;
+            let (of, at_most) = (self.tally.rows[row], self.unsettled_at_most[row]);
+            let mut line = format!("{:<16}marks", name(row));
+            for (what, count, possible) in [
+                ("settled", of.settled, true),
+                ("unsettled", of.unsettled - at_most, rotates(row)),
+                ("unsettled after 25", at_most, KINDS[row - 1].counts),
+            ] {
+                let cell = self.cell(format!("{}, {what}", name(row)), count, possible);
+                line += &format!("  {what}: {cell}");
             }
-            println!("{name:<16}settled  {}  not settled  {not}", of.settled);
+            println!("{line}");
+        }
+    }
+
+    fn print_rotations(&mut self) {
+        for row in (1..ROWS).filter(|row| KINDS[row - 1].counts) {
+            let (name, of) = (name(row), self.tally.rows[row]);
             let mut line = format!("{name:<16}rotations");
             for (rotations, count) in of.turns.into_iter().enumerate() {
                 let cell = self.cell(format!("{name}, {rotations} rotations"), count, true);
