@@ -244,6 +244,50 @@ static int pivots(void)
     return end(&tried);
 }
 
+struct marked {
+    uint8_t kind;
+    double nine[9];
+    uint8_t rotations, settled;
+};
+
+#define TINY 0x1p-60 /* under 2^-52 */
+
+/* A blind rotation of each kind, and what is next to one: equal diagonal numbers, a diagonal number of 2^-52,
+   nothing off the diagonal. Kind 3 also has a blind one whose matrix has 1 and -1 on the diagonal, and one
+   that sees, of a matrix with tiny numbers there: the symmetrised pair counts. */
+static const struct marked marked[] = {
+    {ZANIKORY_KIND_EIGEN_2X2, {0, 1, TINY}, 0, 0},
+    {ZANIKORY_KIND_EIGEN_2X2, {0, 1, -0.0}, 0, 1},
+    {ZANIKORY_KIND_EIGEN_2X2, {TINY, 1, TINY}, 0, 1},
+    {ZANIKORY_KIND_EIGEN_2X2, {0, 1, 0x1p-52}, 0, 1},
+    {ZANIKORY_KIND_EIGEN_2X2, {0, 0, TINY}, 0, 1},
+    {ZANIKORY_KIND_EIGEN_3X3, {0, 1, TINY, 0, 0, TINY}, 1, 0},
+    {ZANIKORY_KIND_EIGEN_3X3, {0, 1, 0, 0, 0, TINY}, 1, 1},
+    {ZANIKORY_KIND_EIGEN_3X3, {0x1p30, 0x1p-24, 0x1p30, 0x1p-24, 0, 0x1p30}, 25, 0},
+    {ZANIKORY_KIND_SVD_2X2, {0, 1, 1, TINY}, 0, 0},
+    {ZANIKORY_KIND_SVD_2X2, {0, 1, 1, 0}, 0, 1},
+    {ZANIKORY_KIND_SVD_2X2, {-1, 0, -TINY, 1}, 0, 0},
+    {ZANIKORY_KIND_SVD_2X2, {0, 1, -1, TINY}, 0, 1},
+    {ZANIKORY_KIND_SVD_3X3, {0, 1, 0, 1, TINY, 0, 0, 0, TINY}, 1, 0},
+    {ZANIKORY_KIND_SVD_3X3, {0, 1, 0, 1, 0, 0, 0, 0, TINY}, 1, 1},
+};
+
+/* Answers with code 0, settled and not. */
+static int marks(void)
+{
+    struct tried tried = begin("0: settled or not");
+    for (size_t i = 0; i < sizeof marked / sizeof marked[0]; i++) {
+        struct request r = good(&kinds[marked[i].kind - kinds[0].number]);
+        struct expected e = {ZANIKORY_CODE_DONE, ZANIKORY_ANSWER_SIZE, {0}};
+        memcpy(r.bytes + ZANIKORY_REQUEST_NINE_AT, marked[i].nine, sizeof marked[i].nine);
+        zanikory_answer_record(r.bytes, sizeof r.bytes, e.answer, sizeof e.answer);
+        e.answer[ZANIKORY_ANSWER_ROTATIONS_AT] = marked[i].rotations;
+        e.answer[ZANIKORY_ANSWER_SETTLED_AT] = marked[i].settled;
+        call(&tried, &r, ZANIKORY_REQUEST_SIZE, ZANIKORY_ANSWER_SIZE, &e);
+    }
+    return end(&tried);
+}
+
 /* ---- the other library, so that the program has both: the factor over an old one, which is lent */
 
 struct factored {
@@ -274,7 +318,7 @@ static int both_libraries(void)
 
 int main(void)
 {
-    int wrong = lengths() + example() + kind_bytes() + not_finite() + pivots() + both_libraries();
+    int wrong = lengths() + example() + kind_bytes() + not_finite() + pivots() + marks() + both_libraries();
     printf("%d wrong\n", wrong);
     return wrong != 0;
 }

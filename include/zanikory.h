@@ -58,9 +58,14 @@ enum zanikory_code {
    bits: -0 is not.
 
    Places of an answer that its kind does not use are zero bytes. Byte 6 is the number of rotations for
-   kinds 2 and 4, the number of the refused pivot (1, 2 or 3) with codes 6 and 9, and else 0. With code 0
-   byte 7 is 1; for kinds 2 and 4 it is 0 where 25 rotations did not settle the matrix, and the numbers are
-   those of the 25th. A pivot is NaN only as the third one, so 9 is of kinds 6 and 8 alone. */
+   kinds 2 and 4, the number of the refused pivot (1, 2 or 3) with codes 6 and 9, and else 0. A pivot is
+   NaN only as the third one, so 9 is of kinds 6 and 8 alone.
+
+   With code 0 byte 7 is 1, but for two cases, in which it is 0: 25 rotations did not settle a matrix of
+   kind 2 or 4, and the numbers are those of the 25th; or a rotation of kinds 1 to 4 was blind. It is blind
+   if its off-diagonal number is not 0, and its two diagonal numbers differ (0 and -0 do not) and are both
+   under 2^-52 in magnitude: it turns by 45 degrees whatever they are, so something is left off the diagonal.
+   For kinds 3 and 4 these are the numbers of the symmetrised pair. */
 
 #define ZANIKORY_REQUEST_SIZE 104
 #define ZANIKORY_REQUEST_EVENT_AT 0

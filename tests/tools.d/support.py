@@ -36,6 +36,12 @@ SOLVE2 = answer(13, 7, values=(1.25, 1.5), left=(2, 1, 2))
 SOLVE3 = answer(14, 8, values=(0.1, 0.2, 0.3), left=(1, 2, 3, 4, 5, 6))
 ANSWERED = (EIGEN2, EIGEN3, SVD2, SVD3, CHOLESKY2, CHOLESKY3, SOLVE2, SOLVE3)
 UNSETTLED = answer(15, 2, count=25, mark=0, values=(1, 1, 1), left=IDENTITY)
+# of each kind that makes rotations: 1 stands beside the diagonal, and on it are 0 and 2^-60, which no rotation looks at
+BLIND = (answer(22, 1, mark=0, values=(-1, 1), left=(H, -H, H, H)),
+         answer(23, 2, count=1, mark=0, values=(-1, 2.0 ** -60, 1), left=(H, -H, 0, 0, 0, 1, H, H, 0)),
+         answer(24, 3, mark=0, values=(1, 1), left=(-H, H, H, H), right=(H, -H, H, H)),
+         answer(25, 4, count=1, mark=0, values=(1, 1, 2.0 ** -60), left=(-H, H, 0, H, H, 0, 0, 0, 1),
+                right=(H, -H, 0, H, H, 0, 0, 0, 1)))
 CUT = answer(0, 0, code=1)
 REFUSED = (CUT, answer(16, 9, code=3), answer(17, 1, code=4), answer(18, 2, code=5),
            answer(19, 6, code=6, count=3), answer(20, 8, code=7), answer(21, 8, code=9, count=3))

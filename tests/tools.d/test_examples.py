@@ -46,6 +46,9 @@ class Night(ToolTest):
         self.assertTrue(0 < len(self.requests) % 104)
         isotropic = struct.pack('<6d', 2.0 ** 30, 2.0 ** -24, 2.0 ** 30, 2.0 ** -24, 0, 2.0 ** 30)
         self.assertEqual(sum(request[4] == 2 and request[8:56] == isotropic for request in self.whole), 1)
+        shear = struct.pack('<9d', 0, 1, 2.0 ** -60, 0, 0, 2.0 ** -60, 0, 0, 0)
+        self.assertEqual([request[4:80] for request in self.whole[-2:]],
+                         [b'\1\0\0\0' + shear[:24] + bytes(48), b'\2\0\0\0' + shear])
 
     def test_its_answers(self):
         status, out, err = self.run_tool('show-answers', '--json', ANSWERS)
@@ -57,7 +60,8 @@ class Night(ToolTest):
         codes = collections.Counter(answer['code'] for answer in shown)
         self.assertEqual(codes, {0: len(self.whole) - 16, 1: 1, 3: 3, 4: 3, 5: 3, 6: 4, 7: 2, 9: 1})
         self.assertEqual(shown[-1]['code'], 1)
-        self.assertEqual([answer['rotations'] for answer in shown if answer['settled'] is False], [25])
+        self.assertEqual([(answer['kind'], answer['rotations']) for answer in shown if answer['settled'] is False],
+                         [('eigen3', 25), ('eigen2', None), ('eigen3', 1)])
         self.assertEqual({answer['kind'] for answer in shown if answer['code'] == 0}, set(KINDS))
 
     def test_its_tally(self):

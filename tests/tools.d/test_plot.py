@@ -4,7 +4,7 @@ import os
 import unittest
 import xml.etree.ElementTree as xml
 
-from support import (ANSWERED, EIGEN2, EIGEN3, IDENTITY, REFUSED, TOP, UNSETTLED, ToolTest, answer, spoilt)
+from support import (ANSWERED, BLIND, EIGEN2, EIGEN3, IDENTITY, REFUSED, TOP, UNSETTLED, ToolTest, answer, spoilt)
 from records.frame import BadFrame, Frame
 from records.net import CENTRE_X, CENTRE_Y, RADIUS, distance
 
@@ -60,6 +60,13 @@ class Plot(ToolTest):
                      'hemisphere z ≥ 0, seen from +z:', '+x', '+y', '−x', '−y', '+z'):
             self.assertIn(line, words)
         self.assertIn('0 tensors (eigen3, code 0)', self.words(self.picture(b'')))
+
+    def test_unsettled_tensors_are_hollow(self):
+        """Whichever way they are unsettled. A 2x2 answer has no axes in space, and none is drawn."""
+        picture = self.picture(b''.join(BLIND) + EIGEN3 + UNSETTLED)
+        self.assertEqual([settled for _, settled, _, _ in self.marks(picture)], ['settled'] * 3 + ['unsettled'] * 6)
+        for line in ('3 tensors (eigen3, code 0)', '2 of them unsettled', '3 of other kinds or refused, not drawn', 'hollow: unsettled'):
+            self.assertIn(line, self.words(picture))
 
     def test_an_axis_is_drawn_by_one_end(self):
         one, two = (0.6, 0.0, 0.8), (-0.6, 0.0, -0.8)

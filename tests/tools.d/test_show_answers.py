@@ -8,8 +8,8 @@ import subprocess
 import sys
 import unittest
 
-from support import (ANSWERED, CHOLESKY2, CHOLESKY3, CUT, EIGEN2, EIGEN3, H, KINDS, REFUSED, SOLVE2, SOLVE3, SVD2, SVD3,
-                     TOP, UNSETTLED, ToolTest, answer, spoilt)
+from support import (ANSWERED, BLIND, CHOLESKY2, CHOLESKY3, CUT, EIGEN2, EIGEN3, H, IDENTITY, KINDS, REFUSED, SOLVE2, SOLVE3,
+                     SVD2, SVD3, TOP, UNSETTLED, ToolTest, answer, spoilt)
 
 FRAME = '--frame=x=north,y=east,z=down'
 
@@ -173,6 +173,46 @@ class Json(ToolTest):
             {'offset': 0, 'foreign': 'code 2 is none that an answer has'}, {'offset': 176, 'left_over': 1}])
 
 
+class Unsettled(ToolTest):
+    """Each kind that makes rotations can be unsettled. A view says so, and all else is as it is of a settled answer."""
+    both = b''.join(record + spoilt(record, 7, 1) for record in BLIND)
+
+    def test_text(self):
+        for record, head in zip(BLIND, ('22 eigen2 -', '23 eigen3 1', '24 svd2 -', '25 svd3 1')):
+            unsettled, settled = (self.shown(one).splitlines()[2:] for one in (record, spoilt(record, 7, 1)))
+            self.assertEqual(unsettled[0].split(), f'{head} no 0 answered'.split())
+            self.assertEqual(settled[0].split(), f'{head} yes 0 answered'.split())
+            self.assertEqual(unsettled[1:], settled[1:])
+        self.assertEqual(self.shown(BLIND[0]).splitlines()[2:], [
+            '        22  eigen2               -  no       0 answered',
+            '            smaller                         -1        0.7071067811865476       -0.7071067811865476',
+            '            larger                           1        0.7071067811865476        0.7071067811865476'])
+
+    def test_csv(self):
+        rows = list(csv.DictReader(io.StringIO(self.shown(self.both, '--csv'))))
+        self.assertEqual([(row['kind'], row['settled']) for row in rows], [(kind, mark) for kind in KINDS[:4] for mark in '01'])
+        self.all_else_is_the_same(rows)
+
+    def test_json(self):
+        objects = [json.loads(line) for line in self.shown(self.both, '--json').splitlines()]
+        self.assertEqual([(o['kind'], o['settled']) for o in objects], [(kind, mark) for kind in KINDS[:4] for mark in (False, True)])
+        self.assertEqual([o['rotations'] for o in objects[::2]], [None, 1, None, 1])
+        self.all_else_is_the_same(objects)
+
+    def all_else_is_the_same(self, shown):
+        for unsettled, settled in zip(shown[::2], shown[1::2]):
+            for name in ('offset', 'settled'):
+                self.assertNotEqual(unsettled.pop(name), settled.pop(name))
+            self.assertEqual(unsettled, settled)
+
+    def test_after_any_rotation(self):
+        """One that is blind may be the only one or one of 25."""
+        for record in (BLIND[1], BLIND[3]):
+            records = b''.join(spoilt(record, 6, count) for count in range(1, 26))
+            shown = [json.loads(line) for line in self.shown(records, '--json').splitlines()]
+            self.assertEqual([(o['rotations'], o['settled']) for o in shown], [(count, False) for count in range(1, 26)])
+
+
 class Damage(ToolTest):
     """A record that cannot be an answer stands behind one that can, and is told with its offset."""
 
@@ -201,8 +241,14 @@ class Damage(ToolTest):
             (spoilt(SVD3, 6, 26), 'the count of rotations is 26, and svd3 has at most 25'),
             (spoilt(EIGEN2, 6, 1), 'the count of rotations is 1, and eigen2 has at most 0'),
             (spoilt(SOLVE3, 6, 1), 'the count of rotations is 1, and solve3 has at most 0'),
-            (spoilt(EIGEN3, 7, 0), 'eigen3 is marked unsettled with 4 rotations'),
-            (spoilt(SVD2, 7, 0), 'svd2 is marked unsettled with 0 rotations'),
+            (answer(1, 2, mark=0, values=(1, 2, 3), left=IDENTITY), 'eigen3 is marked unsettled without a rotation'),
+            (answer(1, 4, mark=0, values=(3, 2, 1), left=IDENTITY, right=IDENTITY), 'svd3 is marked unsettled without a rotation'),
+            (spoilt(CHOLESKY2, 7, 0), 'cholesky2 is marked unsettled without a rotation'),
+            (spoilt(CHOLESKY3, 7, 0), 'cholesky3 is marked unsettled without a rotation'),
+            (spoilt(SOLVE2, 7, 0), 'solve2 is marked unsettled without a rotation'),
+            (spoilt(SOLVE3, 7, 0), 'solve3 is marked unsettled without a rotation'),
+            (spoilt(BLIND[0], 7, 2), 'the settled mark is 2, and must be 0 or 1'),
+            (spoilt(BLIND[2], 6, 25), 'the count of rotations is 25, and svd2 has at most 0'),
             (answer(1, 6, code=6, count=0), 'the refused pivot is 0, and with code 6 cholesky3 has 1 to 3'),
             (answer(1, 8, code=6, count=4), 'the refused pivot is 4, and with code 6 solve3 has 1 to 3'),
             (answer(1, 7, code=6, count=3), 'the refused pivot is 3, and with code 6 solve2 has 1 to 2'),

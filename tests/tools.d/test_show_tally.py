@@ -41,6 +41,9 @@ BOTH = listing({**answered('1', 3), **answered('2', 17, 1), **answered('4', 40),
                 ('8', 'code 9'): 4, ('other', 'code 3'): 100, ('other', 'code 1'): 1}, {(9, 2): 16, (10, 2): 1, (25, 2): 1, (0, 4): 40},
                foreign=8, left_over=175)
 
+UNSETTLED = listing({**answered('1', 3, 2), **answered('2', 12, 1), **answered('3', 0, 4), **answered('4', 7, 5)},
+                    {(1, 2): 13, (1, 4): 12})
+
 
 class TallyTest(ToolTest):
     def show(self, text, *words):
@@ -74,6 +77,12 @@ class Text(TallyTest):
             'rotations  2 eigen3  4 svd3\n'
             '9                12       .\n'
             '25                1       .\n'))
+
+    def test_every_kind_that_makes_rotations_can_be_unsettled(self):
+        lines = self.show(UNSETTLED).splitlines()
+        self.assertEqual([line.split()[-2:] for line in lines[1:12] if line],
+                         [['3', '2'], ['12', '1'], ['.', '4'], ['7', '5']] + [['.', '.']] * 5 + [['22', '12']])
+        self.assertIn('foreign           0', lines)
 
     def test_the_codes_of_pivots_in_words(self):
         lines = self.show(TWO).splitlines()
@@ -168,6 +177,15 @@ class ForPrograms(TallyTest):
         self.assertEqual(made['total'], {'codes': {'0': 61, '1': 1, '3': 100, '4': 0, '5': 2, '6': 1, '7': 0, '9': 4}, 'settled': 60, 'unsettled': 1})
         self.assertEqual((made['records'], made['foreign'], made['left_over']), (177, 8, 175))
         self.assertEqual(made['rotations'], {'2': [0] * 9 + [16, 1] + [0] * 14 + [1], '4': [40] + [0] * 25})
+
+    def test_unsettled_answers(self):
+        rows = csv.DictReader(io.StringIO(self.show(UNSETTLED, '--csv')))
+        counts = {row['kind']: int(row['count']) for row in rows if row['what'] == 'unsettled'}
+        expected = {**dict.fromkeys(ROWS, 0), '1': 2, '2': 1, '3': 4, '4': 5, 'total': 12}
+        self.assertEqual(counts, expected)
+        made = json.loads(self.show(UNSETTLED, '--json'))
+        self.assertEqual({**{row: made['kinds'][row]['unsettled'] for row in ROWS}, 'total': made['total']['unsettled']}, expected)
+        self.assertEqual(self.show(UNSETTLED, '--listing'), UNSETTLED)
 
     def test_json_keeps_every_digit(self):
         self.assertEqual(json.loads(self.show(listing(left_over=LARGEST), '--json'))['left_over'], LARGEST)

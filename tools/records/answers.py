@@ -101,6 +101,11 @@ def refused_fault(record, offset):
     return nonzero(record, offset, MARK_AT, ANSWER_SIZE)
 
 
+def can_be_unsettled(kind, count):
+    """Whether an answer with code 0 and so many rotations can have the mark 0. Without a rotation nothing is left to settle."""
+    return kind.makes_rotations and (count > 0 or not kind.counts_rotations)
+
+
 def head_fault(record, kind):
     """The count and the mark of an answer with code 0."""
     count, mark = record[COUNT_AT], record[MARK_AT]
@@ -109,8 +114,8 @@ def head_fault(record, kind):
         return f'the count of rotations is {count}, and {kind.name} has at most {most}'
     if mark > 1:
         return f'the settled mark is {mark}, and must be 0 or 1'
-    if mark == 0 and count < MOST_ROTATIONS:
-        return f'{kind.name} is marked unsettled with {count} rotations'
+    if mark == 0 and not can_be_unsettled(kind, count):
+        return f'{kind.name} is marked unsettled without a rotation'
     return None
 
 

@@ -15,9 +15,14 @@ class Kind(NamedTuple):
         return len(self.matrix) + len(self.right_side)
 
     @property
+    def makes_rotations(self):
+        """Whether it is answered by rotations, so that byte 7 can say that they left something."""
+        return self.job in ('eigen', 'svd')
+
+    @property
     def counts_rotations(self):
-        """Whether byte 6 counts rotations and byte 7 can say that they did not suffice."""
-        return self.size == 3 and self.job in ('eigen', 'svd')
+        """Whether byte 6 counts them: a 2x2 makes one, and it is not counted."""
+        return self.size == 3 and self.makes_rotations
 
 
 # A symmetric matrix is its upper triangle, column by column; a square one is all of its columns.

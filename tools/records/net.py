@@ -184,7 +184,7 @@ class Net:
         y += LINE
         for i, rank in enumerate(reversed(RANKS)):
             self.out.write(shape(rank, False, LEGEND_X + 8 + 13 * i, y - 4))
-        self.out.write(text(LEGEND_X + 50, y, 'hollow: unsettled after 25 rotations'))
+        self.out.write(text(LEGEND_X + 50, y, 'hollow: unsettled'))
         for heading, lines in (('In the file', self.counted()), ('Equal-area (Schmidt) net', self.projection()),
                                ('An axis is a line', ['its end in this hemisphere is drawn'])):
             y += LINE * 3 // 2
