@@ -18,8 +18,8 @@ use Rattle.eigen.specs.Eigen3x3.{lastOf, watchedLastOf, numbersOf, refus
 use Rattle.eigen.specs.EigVals.{bareLastOf, bareWatchedLastOf, refusedValues, valuesOf, bareEndOf, eigvalsOf, refusedValues2, values2Of, valuesEnd2Of}
 use Rattle.eigen.specs.EigVals.{eigvals2Of}
 use Rattle.eigen.specs.Eigen2x2.{blind2Of, solved2, refused2, numbers2Of, answer2Of, end2Of, eigen2Of}
-use Rattle.eigen.specs.Counted.{NoneBlindIn}
-use Rattle.eigen.specs.Marked.{plainOf, plainValuesOf, plain2Of, plainValues2Of, remarked, remarkedValues, remarked2, remarkedValues2, stateAfter}
+use Rattle.eigen.specs.Counted.{stateAfter, NoneBlindIn}
+use Rattle.eigen.specs.Marked.{plainOf, plainValuesOf, plain2Of, plainValues2Of, remarked, remarkedValues, remarked2, remarkedValues2}
 use Rattle.eigen.specs.Marked.{NeverTiny, DiagonalStands}
 use Rattle.eigen.proofs.Watched.{by-last, by-bare-last}
 use Rattle.eigen.proofs.Counted.{blind-counted}

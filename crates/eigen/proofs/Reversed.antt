@@ -6,7 +6,7 @@ pub mod Wiring
 use Rattle.float.proofs.Words.{_≡_, refl, sym, ap, _∙_, subst, true, List, ℕ, _<_, arith, length, Float, Format}
 use Rattle.float.specs.Sign.{allFinite}
 use Rattle.float.proofs.Finite.{parts-finite, lists-finite}
-use Rattle.float.proofs.Judged.{both-judged}
+use Rattle.float.proofs.Judged.{both-called}
 use Rattle.float.proofs.Negation.{negation}
 use Rattle.float.proofs.Keys.{Within, keyed}
 use Rattle.matrix.specs.Places.{at}
@@ -75,9 +75,6 @@ reversed f a n =
       blind = refl;
     }) in
     let e = alike-ends f w q l (watched-filled f a n) (watched-filled f (negated a) refl) in
-    both-judged Reversed (refusedEigen f) 5 a (negated a) _ _ (all-finite-same r)
-    (λ _. both-judged Reversed (refusedEigen f) 7 (numbersOf s) (numbersOf t) (answerOf f w) (answerOf f q)
+    both-called Reversed (refusedEigen f) a (negated a) (numbersOf s) (numbersOf t) (answerOf f w) (answerOf f q) (all-finite-same r)
     (lists-finite (s .matrix) (t .matrix) (rankedOf s .carried) (rankedOf t .carried) (all-finite-same (l .states .matrices)) (e .vectors))
-    (λ h. e .answers (parts-finite (s .matrix) (rankedOf s .carried) h .0))
-    (refused-reversed f 7 (omega arith)))
-    (refused-reversed f 5 (omega arith))
+    (λ h. e .answers (parts-finite (s .matrix) (rankedOf s .carried) h .0)) (refused-reversed f)

@@ -4,7 +4,7 @@ use Rattle.float.proofs.Words.{_≡_, refl, sym, ap, _∙_, subst₂, true, Lis
 use Rattle.float.specs.Width.{F}
 use Rattle.float.specs.Sign.{allFinite}
 use Rattle.float.proofs.Finite.{lists-finite}
-use Rattle.float.proofs.Judged.{both-judged}
+use Rattle.float.proofs.Judged.{both-called}
 use Rattle.float.proofs.Negation.{Rel, same, negation, add-rel, sub-rel, mul-rel, finite-rel}
 use Rattle.matrix.specs.Places.{at, negatedOf}
 use Rattle.matrix.specs.declared.symmetric.Sym2.{Sym2}
@@ -64,12 +64,9 @@ reversed2 f a n =
     let b = negatedOf 3 a in
     let x = solved2 f a in
     let y = solved2 f b in
-    both-judged SameCodeAndMark (refused2 f) 5 a b _ _ (negated-finite 3 a n)
-    (λ _. both-judged SameCodeAndMark (refused2 f) 7 (numbers2Of x) (numbers2Of y) (answer2Of (blind2Of f a) x) (answer2Of (blind2Of f b) y)
-    (lists-finite (x .values) (y .values) (x .carried) (y .carried) (solved-values f a) (solved-vectors f a))
-    (λ _. record { codes = refl; marks = cc (blind2-same f a) })
-    (record { codes = refl; marks = refl }))
-    (record { codes = refl; marks = refl })
+    both-called SameCodeAndMark (refused2 f) a b (numbers2Of x) (numbers2Of y) (answer2Of (blind2Of f a) x) (answer2Of (blind2Of f b) y)
+    (negated-finite 3 a n) (lists-finite (x .values) (y .values) (x .carried) (y .carried) (solved-values f a) (solved-vectors f a))
+    (λ _. record { codes = refl; marks = cc (blind2-same f a) }) (λ k h. record { codes = refl; marks = refl })
 
 pub values-reversed2 : (f : Format) (a : List Float) → length a ≡ 3 → SameValuesCodeAndMark (eigvals2Of f a) (eigvals2Of f (negatedOf 3 a))
 unfolding eigvals2Of valuesEnd2Of
@@ -77,11 +74,9 @@ values-reversed2 f a n =
     let b = negatedOf 3 a in
     let x = solved2 f a .values in
     let y = solved2 f b .values in
-    both-judged SameValuesCodeAndMark (refusedValues2 f) 5 a b _ _ (negated-finite 3 a n)
-    (λ _. both-judged SameValuesCodeAndMark (refusedValues2 f) 7 x y (values2Of (blind2Of f a) x) (values2Of (blind2Of f b) y) (solved-values f a)
-    (λ _. record { codes = refl; marks = cc (blind2-same f a) })
-    (record { codes = refl; marks = refl }))
-    (record { codes = refl; marks = refl })
+    both-called SameValuesCodeAndMark (refusedValues2 f) a b x y (values2Of (blind2Of f a) x) (values2Of (blind2Of f b) y)
+    (negated-finite 3 a n) (solved-values f a)
+    (λ _. record { codes = refl; marks = cc (blind2-same f a) }) (λ k h. record { codes = refl; marks = refl })
 
 -- ---- the calls: any answers within the promises that the source states
 

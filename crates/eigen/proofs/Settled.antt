@@ -42,8 +42,7 @@ settled-means f a n e =
     let g = answered f a e in
     let m = parts-finite (s .matrix) (rankedOf s .carried) (g .numbers) .0 in
     let u = settled-finite f (s .matrix) (last-filled f a n .0) m in
-    let k = mark-means (watchedLastOf f a .blind) (settledOf f (s .matrix)) (blind-counted f a) in
-    rw (g .answer) ((λ h. let t = k .0 h in (u .0 (t .0), t .1)), (λ h. k .1 (u .1 (h .0), h .1)))
+    rw (g .answer) (mark-means (watchedLastOf f a .blind) (settledOf f (s .matrix)) u (blind-counted f a))
 
 pub settled-call : (a : Sym3) (r : Eigen3) → length (a .«data») ≡ 6 → eigen-jacobi.Post tt (a, tt) r (a, tt) → r .code ≡ 0
     → Exactly (r .settled ≡ true) (AllUnder F (r .worked .«data») × NoneBlindIn F (a .«data») (r .made .count))

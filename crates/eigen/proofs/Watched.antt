@@ -1,7 +1,7 @@
 -- The watched runs end where the runs do: watching changes no state. So an answer is that of the last state, with a mark that knows what was blind.
 use Rattle.float.proofs.Words.{_≡_, ap, List, Float, Format}
 use Rattle.jacobi.specs.Blind.{Watched, sighted}
-use Rattle.jacobi.proofs.Watched.{watched-state}
+use Rattle.jacobi.proofs.Watched.{watched-apart}
 use Rattle.eigen.specs.Pairs.{blindAt}
 use Rattle.eigen.specs.Eigen3x3.{State, settledOf, stepOf, runOf, startOf, lastOf, watchedOf, watchedLastOf, endOf, eigenOf}
 use Rattle.eigen.specs.EigVals.{BareState, bareStepOf, bareRunOf, bareStartOf, bareLastOf, bareWatchedOf, bareWatchedLastOf, bareEndOf, eigvalsOf}
@@ -16,15 +16,12 @@ module _ (f : Format) (a : List Float) where
 
   pub watched-ends : watchedLastOf f a ≡ endedOf
   unfolding watchedOf runOf
-  watched-ends =
-      ap (λ (s : State). record { state = s; blind = watchedLastOf f a .blind })
-      (watched-state (stepOf f) (λ (s : State). settledOf f (s .matrix)) (λ (s : State). blindAt f (s .matrix)) 25 (sighted (startOf f a)))
+  watched-ends = watched-apart (stepOf f) (λ (s : State). settledOf f (s .matrix)) (λ (s : State). blindAt f (s .matrix)) 25 (sighted (startOf f a))
 
   bare-watched-ends : bareWatchedLastOf f a ≡ bareEndedOf
   unfolding bareWatchedOf bareRunOf
   bare-watched-ends =
-      ap (λ (s : BareState). record { state = s; blind = bareWatchedLastOf f a .blind })
-      (watched-state (bareStepOf f) (λ (s : BareState). settledOf f (s .matrix)) (λ (s : BareState). blindAt f (s .matrix)) 25 (sighted (bareStartOf a)))
+      watched-apart (bareStepOf f) (λ (s : BareState). settledOf f (s .matrix)) (λ (s : BareState). blindAt f (s .matrix)) 25 (sighted (bareStartOf a))
 
   pub by-last : eigenOf f a ≡ endOf f a endedOf
   unfolding eigenOf

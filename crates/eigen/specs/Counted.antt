@@ -1,14 +1,13 @@
 -- What the count and the mark of an answer tell of the run. Definitions only.
 use mathlib.Core.Path.{_≡_}
-use mathlib.Core.Bool.{Bool, true}
+use mathlib.Core.Bool.{Bool, true, false}
 use mathlib.Core.List.{List}
-use Prim.Native.Nat.{ℕ}
+use Prim.Native.Nat.{ℕ, _<_}
 use lib.Ieee.{Float, Format, lt}
 use Rattle.float.specs.Constants.{limitF}
 use Rattle.float.specs.Exactly.{Exactly}
 use Rattle.float.specs.Sign.{magnitudeOf}
-use Rattle.jacobi.specs.Run.{Ran}
-use Rattle.jacobi.specs.Blind.{NoneBlind}
+use Rattle.jacobi.specs.Run.{after, Ran}
 use Rattle.jacobi.specs.declared.made.Made.{Made}
 use Rattle.jacobi.specs.declared.pairs.Pair.{Pair}
 use Rattle.eigen.specs.Pairs.{apq, blindAt}
@@ -18,9 +17,13 @@ use Rattle.eigen.specs.Eigen3x3.{State, settledOf, stepOf, startOf, last
 abbrev pub RanFor : Format → List Float → ℕ → Type 0
 RanFor f a n = Ran (stepOf f) (λ (s : State). settledOf f (s .matrix)) 25 (startOf f a) (lastOf f a) n
 
+-- the state after j rotations
+abbrev pub stateAfter : Format → List Float → ℕ → State
+stateAfter f a j = after (stepOf f) (λ (s : State). settledOf f (s .matrix)) j (startOf f a)
+
 -- none of the first n rotations is blind
 abbrev pub NoneBlindIn : Format → List Float → ℕ → Type 0
-NoneBlindIn f a n = NoneBlind (stepOf f) (λ (s : State). settledOf f (s .matrix)) (λ (s : State). blindAt f (s .matrix)) n (startOf f a)
+NoneBlindIn f a n = (j : ℕ) → j < n → blindAt f (stateAfter f a j .matrix) ≡ false
 
 -- the mark is earned: the last state is settled, and none of the rotations to it is blind
 abbrev pub Earned : Format → List Float → Type 0

@@ -7,11 +7,11 @@ use Rattle.float.specs.Judged.{judgedCall}
 use Rattle.matrix.specs.Places.{zeros}
 use Rattle.matrix.specs.Symmetric.{sym3}
 use Rattle.jacobi.specs.Run.{run, nothingMade, oneMore}
-use Rattle.jacobi.specs.Blind.{Watched, watchedRun, sighted}
+use Rattle.jacobi.specs.Blind.{marked, Watched, watchedRun, sighted}
 use Rattle.jacobi.specs.Order.{Ranked, ordered, ordered3, ascending}
 use Rattle.jacobi.specs.declared.made.Made.{Made}
 use Rattle.eigen.specs.Pairs.{blindAt}
-use Rattle.eigen.specs.Eigen3x3.{settledOf, nextMatrix, diagonal, markedOf}
+use Rattle.eigen.specs.Eigen3x3.{settledOf, nextMatrix, diagonal}
 use Rattle.eigen.specs.Eigen2x2.{blind2Of, solved2}
 use Rattle.eigen.specs.declared.eigen3x3.Bare.{Bare}
 use Rattle.eigen.specs.declared.eigen3x3.EigVals3.{EigVals3}
@@ -75,7 +75,7 @@ abbrev pub valuesOf : Format → Watched BareState → EigVals3
 valuesOf f w = record {
   code = 0;
   made = w .state .made;
-  settled = markedOf f (w .blind) (w .state .matrix);
+  settled = marked (w .blind) (settledOf f (w .state .matrix));
   values = sort3Of (diagonal (w .state .matrix));
   worked = sym3 (w .state .matrix);
 }

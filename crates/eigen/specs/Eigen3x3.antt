@@ -1,5 +1,5 @@
 -- The 3x3 call: states, the run of at most 25 rotations, and the answer. Definitions only.
-use mathlib.Core.Bool.{Bool, false, not, _&&_}
+use mathlib.Core.Bool.{Bool, false}
 use mathlib.Core.List.{List, [], _∷_, _++_}
 use Prim.Native.Nat.{ℕ}
 use lib.Ieee.{Float, Format, lt}
@@ -10,7 +10,7 @@ use Rattle.matrix.specs.Square.{mat3, identityOf, exchangeOf}
 use Rattle.matrix.specs.Symmetric.{sym3}
 use Rattle.jacobi.specs.Pairs.{turnedOf}
 use Rattle.jacobi.specs.Run.{run, nothingMade, oneMore}
-use Rattle.jacobi.specs.Blind.{Watched, watchedRun, sighted}
+use Rattle.jacobi.specs.Blind.{marked, Watched, watchedRun, sighted}
 use Rattle.jacobi.specs.Order.{Ranked, ordered3, ascending}
 use Rattle.jacobi.specs.declared.made.Made.{Made}
 use Rattle.eigen.specs.Pairs.{entry, offDiagOf, pairOf, chosenOf, blindAt, appliedOf}
@@ -93,15 +93,11 @@ refusedEigen f k = record { code = k; made = nothingMade; settled = false; value
 abbrev pub numbersOf : State → List Float
 numbersOf s = s .matrix ++ rankedOf s .carried
 
--- the mark: no rotation was blind, and the last matrix is settled
-abbrev pub markedOf : Format → Bool → List Float → Bool
-markedOf f blind a = not blind && settledOf f a
-
 abbrev pub answerOf : Format → Watched State → Eigen3
 answerOf f w = record {
   code = 0;
   made = w .state .made;
-  settled = markedOf f (w .blind) (w .state .matrix);
+  settled = marked (w .blind) (settledOf f (w .state .matrix));
   values = rankedOf (w .state) .values;
   vectors = mat3 (rankedOf (w .state) .carried);
   worked = sym3 (w .state .matrix);

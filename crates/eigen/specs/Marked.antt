@@ -1,18 +1,18 @@
 -- What blind rotations change of an answer: its mark, and nothing else. Definitions only.
 use mathlib.Core.Path.{_≡_}
-use mathlib.Core.Bool.{Bool, false, not, _&&_}
+use mathlib.Core.Bool.{Bool, false}
 use mathlib.Core.List.{List}
 use Prim.Native.Nat.{ℕ, _<_}
 use lib.Ieee.{Float, Format, lt}
 use Rattle.float.specs.Constants.{epsilonF}
 use Rattle.float.specs.Sign.{magnitudeOf}
 use Rattle.jacobi.specs.Rotation.{tinyDiagonal}
-use Rattle.jacobi.specs.Run.{after}
-use Rattle.jacobi.specs.Blind.{sighted}
+use Rattle.jacobi.specs.Blind.{marked, sighted}
 use Rattle.eigen.specs.Pairs.{entry, app, aqq, pairOf}
-use Rattle.eigen.specs.Eigen3x3.{State, settledOf, stepOf, startOf, lastOf, endOf}
+use Rattle.eigen.specs.Eigen3x3.{lastOf, endOf}
 use Rattle.eigen.specs.EigVals.{bareLastOf, bareEndOf, valuesEnd2Of}
 use Rattle.eigen.specs.Eigen2x2.{solved2, end2Of}
+use Rattle.eigen.specs.Counted.{stateAfter}
 use Rattle.eigen.specs.declared.eigen2x2.Eigen2.{Eigen2}
 use Rattle.eigen.specs.declared.eigen2x2.EigVals2.{EigVals2}
 use Rattle.eigen.specs.declared.eigen3x3.Eigen3.{Eigen3}
@@ -34,10 +34,6 @@ plainValues2Of f a = valuesEnd2Of f a false (solved2 f a .values)
 
 -- ---- where a mark is the same with both: no diagonal is tiny
 
--- the states of the run
-abbrev pub stateAfter : Format → List Float → ℕ → State
-stateAfter f a j = after (stepOf f) (λ (s : State). settledOf f (s .matrix)) j (startOf f a)
-
 -- of no pair that the first n rotations turn are both numbers on the diagonal under 2^-52 in magnitude
 abbrev pub NeverTiny : Format → List Float → ℕ → Type 0
 NeverTiny f a n = (j : ℕ) → j < n → let m = stateAfter f a j .matrix in tinyDiagonal f (app (pairOf m) m) (aqq (pairOf m) m) ≡ false
@@ -50,13 +46,13 @@ DiagonalStands f a n = (j : ℕ) → j < n → (i : ℕ) → i < 3 → lt (magni
 
 abbrev pub remarked : Bool → Eigen3 → Eigen3
 remarked blind r =
-    record { code = r .code; made = r .made; settled = not blind && r .settled; values = r .values; vectors = r .vectors; worked = r .worked }
+    record { code = r .code; made = r .made; settled = marked blind (r .settled); values = r .values; vectors = r .vectors; worked = r .worked }
 
 abbrev pub remarkedValues : Bool → EigVals3 → EigVals3
-remarkedValues blind r = record { code = r .code; made = r .made; settled = not blind && r .settled; values = r .values; worked = r .worked }
+remarkedValues blind r = record { code = r .code; made = r .made; settled = marked blind (r .settled); values = r .values; worked = r .worked }
 
 abbrev pub remarked2 : Bool → Eigen2 → Eigen2
-remarked2 blind r = record { code = r .code; settled = not blind && r .settled; values = r .values; vectors = r .vectors }
+remarked2 blind r = record { code = r .code; settled = marked blind (r .settled); values = r .values; vectors = r .vectors }
 
 abbrev pub remarkedValues2 : Bool → EigVals2 → EigVals2
-remarkedValues2 blind r = record { code = r .code; settled = not blind && r .settled; values = r .values }
+remarkedValues2 blind r = record { code = r .code; settled = marked blind (r .settled); values = r .values }

@@ -21,7 +21,8 @@ ghost use lib.Ieee.{lt};
 ghost use Rattle.float.specs.Width.{F};
 ghost use Rattle.float.specs.Constants.{limitF};
 ghost use Rattle.float.specs.Judged.{judged};
-ghost use Rattle.eigen.specs.Eigen3x3.{working, ofWorking, watchedLastOf, sorted, rankedOf, refusedEigen, numbersOf, markedOf, answerOf, eigenOf};
+ghost use Rattle.jacobi.specs.Blind.{marked};
+ghost use Rattle.eigen.specs.Eigen3x3.{working, ofWorking, settledOf, watchedLastOf, sorted, rankedOf, refusedEigen, numbersOf, answerOf, eigenOf};
 ghost use Rattle.eigen.specs.EigVals.{bare, ofBare, bareWatchedLastOf, refusedValues, valuesOf, eigvalsOf};
 
 // A working state, and whether a rotation made so far was blind.
@@ -65,7 +66,7 @@ fn under_limit(largest: OffDiag) -> bool
 
 // The mark: no rotation was blind, and all that lies beside the diagonal is strictly under 2^-44.
 fn is_settled(blind: bool, a: Sym3) -> bool
-    ensures { λ r. ⌜ r ≡ markedOf F blind (a .«data») ⌝ }
+    ensures { λ r. ⌜ r ≡ marked blind (settledOf F (a .«data»)) ⌝ }
 {
     if blind {
         return false;

@@ -1,10 +1,9 @@
 -- A branch on the finite test is one way through `judged`, and what holds of both ways holds of it: `judged` is a choice by that test. A call has three ways,
 -- and only the one on which nothing is refused leaves code 0.
-use Rattle.float.proofs.Words.{[], _≡_, refl, sym, _∙_, Bool, true, false, List, ℕ, arith, Float}
-use Rattle.float.specs.Choice.{pick}
+use Rattle.float.proofs.Words.{[], _≡_, refl, sym, _∙_, Bool, true, false, List, ℕ, _<_, arith, Float}
 use Rattle.float.specs.Sign.{allFinite}
 use Rattle.float.specs.Judged.{judged, judgedCall}
-use Rattle.float.proofs.Choice.{by-test}
+use Rattle.float.proofs.Choice.{by-test, both-chosen}
 
 -- t is what a callee answered that promised the test
 pub stands : {A : Type 0} (xs : List Float) {t : Bool} → t ≡ allFinite xs → t ≡ true → (refuse : ℕ → A) (k : ℕ) (r : A) → judged refuse k xs r ≡ r
@@ -41,14 +40,17 @@ judged-through g refuse own used made r =
     by-call refuse used made r (λ q. g q ≡ judgedCall refuse used made (g r)) (λ i n. rw (i, n)) (λ i n. rw (i, n) (own 7)) (λ i. rw i (own 5))
 
 -- two judgements: the tests agree, and what holds of both answers holds where both stand
-pub both-judged : {A : Type 0} (R : A → A → Type 0) (refuse : ℕ → A) (k : ℕ) (xs ys : List Float) (r q : A) → allFinite xs ≡ allFinite ys
+both-judged : {A : Type 0} (R : A → A → Type 0) (refuse : ℕ → A) (k : ℕ) (xs ys : List Float) (r q : A) → allFinite xs ≡ allFinite ys
     → (allFinite xs ≡ true → R r q) → R (refuse k) (refuse k) → R (judged refuse k xs r) (judged refuse k ys q)
 unfolding judged
-both-judged R refuse k xs ys r q e h n = rw (← e) (go (allFinite xs) h)
-  where
-    go : (t : Bool) → (t ≡ true → R r q) → R (pick t r (refuse k)) (pick t q (refuse k))
-    go true h = h refl
-    go false h = n
+both-judged R refuse k xs ys r q e h n = rw (← e) (both-chosen R (allFinite xs) r (refuse k) q (refuse k) h (λ _. n))
+
+-- and two calls
+pub both-called : {A : Type 0} (R : A → A → Type 0) (refuse : ℕ → A) (used used' made made' : List Float) (r q : A)
+    → allFinite used ≡ allFinite used' → allFinite made ≡ allFinite made' → (allFinite made ≡ true → R r q) → ((k : ℕ) → 0 < k → R (refuse k) (refuse k))
+    → R (judgedCall refuse used made r) (judgedCall refuse used' made' q)
+both-called R refuse used used' made made' r q e d h n =
+    both-judged R refuse 5 used used' _ _ e (λ _. both-judged R refuse 7 made made' r q d h (n 7 (omega arith))) (n 5 (omega arith))
 
 -- ---- with code 0 the answer q is the one that was worked out, r, of finite numbers
 

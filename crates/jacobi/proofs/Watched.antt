@@ -6,7 +6,7 @@ use Rattle.float.proofs.Choice.{neither}
 use Rattle.float.proofs.Finite.{both-true}
 use Rattle.jacobi.specs.Rotation.{isGone, tinyDiagonal, evenTurn, rotationOf}
 use Rattle.jacobi.specs.Run.{run, after, Ran}
-use Rattle.jacobi.specs.Blind.{blindOf, Watched, watchedStep, watchedRun, NoneBlind}
+use Rattle.jacobi.specs.Blind.{blindOf, marked, Watched, watchedStep, watchedRun, NoneBlind}
 use Rattle.jacobi.proofs.Run.{one-more, ran, ran-one, keeps}
 
 -- ---- one rotation
@@ -44,6 +44,10 @@ module _ {S : Type 0} (step : S → S) (done : S → Bool) (blind : S → Bool) 
 
   pub watched-state : (k : ℕ) (w : Watched S) → watchedRun step done blind k w .state ≡ run step done k (w .state)
   watched-state = keeps stepped ended step done (λ (w : Watched S). w .state) (λ w. refl) (λ w. refl)
+
+  pub watched-apart : (k : ℕ) (w : Watched S)
+      → watchedRun step done blind k w ≡ record { state = run step done k (w .state); blind = watchedRun step done blind k w .blind }
+  watched-apart k w = ap (λ (s : S). record { state = s; blind = watchedRun step done blind k w .blind }) (watched-state k w)
 
   state-after : (n : ℕ) (w : Watched S) → after stepped ended n w .state ≡ after step done n (w .state)
   unfolding after
@@ -84,8 +88,8 @@ module _ {S : Type 0} (step : S → S) (done : S → Bool) (blind : S → Bool) 
       ap (λ (w : Watched S). w .blind) (y .1 .stands) ∙ ap (λ (j : ℕ). after stepped ended j w .blind) same in
       ((λ h. none-blind n w (sym left ∙ h) .1), (λ h. left ∙ not-blind n w e h))
 
--- ---- the mark of a run: it is set exactly if the last state is settled (t) and no rotation was blind (b), whatever the second is known by
+-- ---- the mark of a run: it is set exactly if the end is settled (t) and no rotation was blind (b), whatever each is known by
 
-pub mark-means : {N : Type 0} (b t : Bool) → Exactly (b ≡ false) N → Exactly (not b && t ≡ true) ((t ≡ true) × N)
-mark-means true t h = ((λ e. absurd (false≢true e)), (λ n. absurd (true≢false (h .1 (n .1)))))
-mark-means false t h = ((λ e. (e, h .0 refl)), (λ n. n .0))
+pub mark-means : {U N : Type 0} (b t : Bool) → Exactly (t ≡ true) U → Exactly (b ≡ false) N → Exactly (marked b t ≡ true) (U × N)
+mark-means true t u h = ((λ e. absurd (false≢true e)), (λ n. absurd (true≢false (h .1 (n .1)))))
+mark-means false t u h = ((λ e. (u .0 e, h .0 refl)), (λ n. u .1 (n .0)))

@@ -11,6 +11,10 @@ use Rattle.jacobi.specs.Run.{run, after}
 abbrev pub blindOf : Format → Float → Float → Float → Bool
 blindOf f apq app aqq = not (isGone f apq) && (tinyDiagonal f app aqq && not (eq app aqq))
 
+-- the mark: no rotation was blind, and the end is settled
+abbrev pub marked : Bool → Bool → Bool
+marked blind settled = not blind && settled
+
 -- ---- a run that is watched: beside the state it has whether a rotation made so far was blind
 
 pub record Watched (S : Type 0) : Type 0 where

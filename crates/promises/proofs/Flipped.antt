@@ -1,10 +1,11 @@
 -- A request with signs flipped says the same of its form, and its numbers are the negated ones. So its answer is to the other what the kernel's answers to a
 -- matrix and to its negation are to each other, whatever that is.
-use Rattle.float.proofs.Words.{_≡_, refl, sym, ap, _∙_, subst⁻¹, Bool, true, false, _&&_, List, [], _∷_, _++_, ℕ, zero, suc, _+_, _-_, _*_, _≤_, _<_, mul-zero}
+use Rattle.float.proofs.Words.{_≡_, refl, sym, ap, _∙_, subst⁻¹, Bool, true, _&&_, List, [], _∷_, _++_, ℕ, zero, suc, _+_, _-_, _*_, _≤_, _<_, mul-zero}
 use Rattle.float.proofs.Words.{mul-suc, mul-le-mul-left, arith, eqb, length, getD, take, drop, length-append, length-take, length-drop, take-all, take-suc}
 use Rattle.float.proofs.Words.{take-append-seam, drop-append-add, drop-drop, length-take-le, Float, Format, binary32, binary64, neg, ofBits, eqb-false}
 use Rattle.float.specs.Choice.{pick}
 use Rattle.float.specs.Sign.{allFinite}
+use Rattle.float.proofs.Choice.{both-chosen}
 use Rattle.matrix.specs.Places.{at, tabulate, negatedOf}
 use Rattle.matrix.proofs.Tables.{at-tabulate, tabulate-same, first-tabulate, negated-finite, length-tabulate}
 use Rattle.kinds.specs.Table.{kindNumbered, knownKind}
@@ -184,18 +185,14 @@ module _ (f : Format) (kind n : ℕ) (nine : kindNumbered kind .nine ≡ n) (thr
         (ap allFinite firsts-negated ∙ sym (negated-finite n (firstOf n numbers) (length-tabulate n (at numbers)))))
 
     -- the same tests on both sides, so the same side of each choice is taken
-    both-chosen : (t : Bool) (x y z : Worked) → R x y → (t ≡ false → R z z) → R (pick t x z) (pick t y z)
-    both-chosen true x y z h k = h
-    both-chosen false x y z h k = k refl
-
     judged-kept : R (judgedOf f (request body)) (judgedOf f (request other))
     unfolding judgedOf
     judged-kept =
         let k = formOf f (request body) in
         rw (same-form, same-used)
-        (both-chosen (eqb k 0) _ _ _
-        (both-chosen (usedFinite (askedOf f (request body))) _ _ _ (worked a5 (tabulate 9 (numberIn body)) (tabulate 9 (numberIn other)) _ _ firsts-negated)
-        (λ _. refused 5 (λ e. absurd (omega arith))))
+        (both-chosen R (eqb k 0) _ _ _ _
+        (λ _. both-chosen R (usedFinite (askedOf f (request body))) _ _ _ _
+        (λ _. worked a5 (tabulate 9 (numberIn body)) (tabulate 9 (numberIn other)) _ _ firsts-negated) (λ _. refused 5 (λ e. absurd (omega arith))))
         (λ e. refused k (eqb-false k 0 e)))
 
   pub flipped-kept : (s : List ℕ) → length s ≡ requestSize f → kindOf s ≡ kind → Bytes s → R (judgedOf f s) (judgedOf f (flippedFirst f n s))

@@ -2,15 +2,14 @@
 -- symmetrised pair is the same; where it is zero, they are the same, and the pair is negated. Either way the Jacobi rotation is the same, and blind for both or
 -- for none. V and the values, which are magnitudes, are the same too, and U differs in signs only. So all numbers of one answer are finite exactly where all
 -- those of the other are.
-use Rattle.float.proofs.Words.{_≡_, refl, sym, ap, _∙_, subst, subst₂, Bool, true, false, not, List, ℕ, _*_, length, Float, Format, neg, add}
-use Rattle.float.proofs.Words.{sub, div, eq}
+use Rattle.float.proofs.Words.{_≡_, refl, sym, ap, _∙_, subst, subst₂, Bool, true, not, List, ℕ, _*_, length, Float, Format, neg, add}
+use Rattle.float.proofs.Words.{sub, eq}
 use Rattle.float.specs.Width.{F}
-use Rattle.float.specs.Choice.{pick}
 use Rattle.float.specs.Constants.{zeroF, oneF}
 use Rattle.float.specs.Sign.{magnitudeOf, signBitOf, allFinite}
-use Rattle.float.proofs.Choice.{chosen}
+use Rattle.float.proofs.Choice.{chosen, both-chosen}
 use Rattle.float.proofs.Finite.{lists-finite}
-use Rattle.float.proofs.Judged.{both-judged}
+use Rattle.float.proofs.Judged.{both-called}
 use Rattle.float.proofs.Negation.{Rel, same, negation, add-rel, neg-rel, sub-rel, mul-rel, div-rel, magnitude-rel, finite-rel}
 use Rattle.matrix.specs.Places.{at, negatedOf}
 use Rattle.matrix.specs.Square.{exchangeOf, negateOf}
@@ -18,7 +17,7 @@ use Rattle.matrix.specs.declared.square.Mat2.{Mat2}
 use Rattle.matrix.proofs.Tables.{negated-finite}
 use Rattle.matrix.proofs.Moves.{negate-finite}
 use Rattle.jacobi.specs.Rotation.{rotationOf}
-use Rattle.jacobi.specs.Order.{Ranked, swapped, ordered, descending}
+use Rattle.jacobi.specs.Order.{Ranked, ordered, descending}
 use Rattle.jacobi.specs.Moved.{Moved, ColumnsFollow}
 use Rattle.jacobi.specs.declared.rotation.Rotation.{Rotation}
 use Rattle.jacobi.proofs.Negated.{blind-same, rotation-same}
@@ -63,14 +62,9 @@ module _ (f : Format) (app aqp apq aqq : Float) where
   polar-by-alike : (d : Float) {x x' y y' : Float} → Rel true x x' → Rel true y y'
       → PolarAlike (polarBy f app aqp apq aqq x y d) (polarBy f (neg app) (neg aqp) (neg apq) (neg aqq) x' y' d)
   unfolding polarBy
-  polar-by-alike d {x} {x'} {y} {y'} X Y = go (eq d (zeroF f))
-    where
-      go : (t : Bool)
-          → PolarAlike (pick t (symmetrisedBy f app aqp apq aqq (oneF f) (zeroF f)) (symmetrisedBy f app aqp apq aqq (div f x d) (div f (neg y) d)))
-          (pick t (symmetrisedBy f (neg app) (neg aqp) (neg apq) (neg aqq) (oneF f) (zeroF f))
-          (symmetrisedBy f (neg app) (neg aqp) (neg apq) (neg aqq) (div f x' d) (div f (neg y') d)))
-      go true = symmetrised-alike (same (oneF f)) (same (zeroF f))
-      go false = symmetrised-alike (div-rel f X d) (div-rel f (neg-rel Y) d)
+  polar-by-alike d X Y =
+      both-chosen PolarAlike (eq d (zeroF f)) _ _ _ _ (λ _. symmetrised-alike (same (oneF f)) (same (zeroF f)))
+      (λ _. symmetrised-alike (div-rel f X d) (div-rel f (neg-rel Y) d))
 
   polar-alike : PolarAlike (polarOf f app aqp apq aqq) (polarOf f (neg app) (neg aqp) (neg apq) (neg aqq))
   unfolding polarOf
@@ -118,12 +112,8 @@ rightOf w = record { values = w .values; carried = w .carried .v }
 
 right-apart : (w : Factors) → rightOf (ordered 2 descending (exchangeBoth 2) 0 1 w) ≡ ordered 2 descending (exchangeOf 2) 0 1 (rightOf w)
 unfolding ordered
-right-apart w = go (descending (at (w .values) 0) (at (w .values) 1))
-  where
-    go : (t : Bool)
-        → rightOf (pick t (swapped 2 descending (exchangeBoth 2) 0 1 w) w) ≡ pick t (swapped 2 descending (exchangeOf 2) 0 1 (rightOf w)) (rightOf w)
-    go true = refl
-    go false = refl
+right-apart w =
+    both-chosen (λ (w : Factors) (z : Ranked (List Float)). rightOf w ≡ z) (descending (at (w .values) 0) (at (w .values) 1)) _ _ _ _ (λ _. refl) (λ _. refl)
 
 right-same : {f : Format} {r q : TwoSided} → SidesAlike f r q → rightOf (factors2Of r) ≡ rightOf (factors2Of q)
 unfolding factors2Of order2Of
@@ -172,12 +162,9 @@ reversed2 f a n =
     let x = factors2Of r in
     let y = factors2Of q in
     let h = sides-alike f a in
-    both-judged SameCodeAndMark (refusedSvd2 f) 5 a b _ _ (negated-finite 4 a n)
-    (λ _. both-judged SameCodeAndMark (refusedSvd2 f) 7 (numbers2Of x) (numbers2Of y) (answer2Of (blindSides f r) x) (answer2Of (blindSides f q) y)
-    (numbers-alike r q h)
-    (λ _. record { codes = refl; marks = cc (h .blind) })
-    (record { codes = refl; marks = refl }))
-    (record { codes = refl; marks = refl })
+    both-called SameCodeAndMark (refusedSvd2 f) a b (numbers2Of x) (numbers2Of y) (answer2Of (blindSides f r) x) (answer2Of (blindSides f q) y)
+    (negated-finite 4 a n) (numbers-alike r q h)
+    (λ _. record { codes = refl; marks = cc (h .blind) }) (λ k l. record { codes = refl; marks = refl })
 
 -- ---- the call: any answers within the promise that the source states
 

@@ -41,8 +41,7 @@ settled-means f a n e =
     let s = lastOf f a in
     let g = answered f a e in
     let u = settled-finite f (s .matrix) (last-full f a n .matrix) (parts-finite (s .matrix) _ (g .numbers) .0) in
-    let k = mark-means (watchedLastOf f a .blind) (settledOf f (s .matrix)) (blind-counted f a) in
-    rw (g .answer) ((λ h. let t = k .0 h in (u .0 (t .0), t .1)), (λ h. k .1 (u .1 (h .0), h .1)))
+    rw (g .answer) (mark-means (watchedLastOf f a .blind) (settledOf f (s .matrix)) u (blind-counted f a))
 
 pub settled-call : (a : Mat3) (r : Svd3) → length (a .«data») ≡ 9 → svd.Post tt (a, tt) r (a, tt) → r .code ≡ 0
     → Exactly (r .settled ≡ true) (AllUnder F (r .worked .«data») × NoneBlindIn F (a .«data») (r .made .count))

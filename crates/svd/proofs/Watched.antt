@@ -1,7 +1,7 @@
 -- The watched run ends where the run does: watching changes no state. So an answer is that of the last state, with a mark that knows what was blind.
 use Rattle.float.proofs.Words.{_≡_, ap, List, Float, Format}
 use Rattle.jacobi.specs.Blind.{Watched, sighted}
-use Rattle.jacobi.proofs.Watched.{watched-state}
+use Rattle.jacobi.proofs.Watched.{watched-apart}
 use Rattle.svd.specs.Pairs.{blindAt}
 use Rattle.svd.specs.Svd3x3.{State, settledOf, stepOf, runOf, startOf, lastOf, watchedOf, watchedLastOf, endOf, svdOf}
 
@@ -12,9 +12,7 @@ module _ (f : Format) (a : List Float) where
 
   watched-ends : watchedLastOf f a ≡ endedOf
   unfolding watchedOf runOf
-  watched-ends =
-      ap (λ (s : State). record { state = s; blind = watchedLastOf f a .blind })
-      (watched-state (stepOf f) (λ (s : State). settledOf f (s .matrix)) (λ (s : State). blindAt f (s .matrix)) 25 (sighted (startOf f a)))
+  watched-ends = watched-apart (stepOf f) (λ (s : State). settledOf f (s .matrix)) (λ (s : State). blindAt f (s .matrix)) 25 (sighted (startOf f a))
 
   pub by-last : svdOf f a ≡ endOf f a endedOf
   unfolding svdOf

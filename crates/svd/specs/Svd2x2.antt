@@ -35,9 +35,9 @@ numbers2Of w = w .values ++ (w .carried .u ++ w .carried .v)
 abbrev pub answer2Of : Bool → Factors → Svd2
 answer2Of blind w = record { code = 0; settled = not blind; values = w .values; u = mat2 (w .carried .u); v = mat2 (w .carried .v) }
 
--- the answer to a, whose rotation is r
-unfoldable pub end2Of : Format → List Float → TwoSided → Svd2
-end2Of f a r = judgedCall (refusedSvd2 f) a (numbers2Of (factors2Of r)) (answer2Of (blindSides f r) (factors2Of r))
+-- the answer to a, whose factors are w
+unfoldable pub end2Of : Format → List Float → Bool → Factors → Svd2
+end2Of f a blind w = judgedCall (refusedSvd2 f) a (numbers2Of w) (answer2Of blind w)
 
 unfoldable pub svd2Of : Format → List Float → Svd2
-svd2Of f a = end2Of f a (sides2Of f a)
+svd2Of f a = let r = sides2Of f a in end2Of f a (blindSides f r) (factors2Of r)

@@ -1,5 +1,5 @@
 -- The 3x3 call: states, the run of at most 25 two-sided rotations, and the answer. Definitions only.
-use mathlib.Core.Bool.{Bool, false, not, _&&_}
+use mathlib.Core.Bool.{Bool, false}
 use mathlib.Core.List.{List, _++_}
 use Prim.Native.Nat.{ℕ}
 use lib.Ieee.{Float, Format, lt}
@@ -9,7 +9,7 @@ use Rattle.matrix.specs.Places.{zeros}
 use Rattle.matrix.specs.Square.{mat3, identityOf}
 use Rattle.jacobi.specs.Pairs.{turnedOf}
 use Rattle.jacobi.specs.Run.{run, nothingMade, oneMore}
-use Rattle.jacobi.specs.Blind.{Watched, watchedRun, sighted}
+use Rattle.jacobi.specs.Blind.{marked, Watched, watchedRun, sighted}
 use Rattle.jacobi.specs.declared.made.Made.{Made}
 use Rattle.svd.specs.Pairs.{entry, offDiagOf, pairOf, chosenOf, blindAt, appliedOf}
 use Rattle.svd.specs.Order.{Factors, orderOf}
@@ -85,15 +85,11 @@ factorsOf s = orderOf (entry (s .matrix) 0 0) (entry (s .matrix) 1 1) (entry (s 
 abbrev pub numbersOf : State → List Float
 numbersOf s = s .matrix ++ (factorsOf s .carried .u ++ factorsOf s .carried .v)
 
--- the mark: no rotation was blind, and the last matrix is settled
-abbrev pub markedOf : Format → Bool → List Float → Bool
-markedOf f blind a = not blind && settledOf f a
-
 abbrev pub answerOf : Format → Watched State → Svd3
 answerOf f w = record {
   code = 0;
   made = w .state .made;
-  settled = markedOf f (w .blind) (w .state .matrix);
+  settled = marked (w .blind) (settledOf f (w .state .matrix));
   values = factorsOf (w .state) .values;
   u = mat3 (factorsOf (w .state) .carried .u);
   v = mat3 (factorsOf (w .state) .carried .v);

@@ -23,8 +23,9 @@ ghost use Rattle.float.specs.Width.{F};
 ghost use Rattle.float.specs.Constants.{limitF};
 ghost use Rattle.float.specs.Judged.{judged};
 ghost use Rattle.float.specs.Sign.{allFinite};
+ghost use Rattle.jacobi.specs.Blind.{marked};
 ghost use Rattle.svd.specs.Order.{factors3};
-ghost use Rattle.svd.specs.Svd3x3.{working, ofWorking, watchedLastOf, refusedSvd, factorsOf, numbersOf, markedOf, answerOf, svdOf};
+ghost use Rattle.svd.specs.Svd3x3.{working, ofWorking, settledOf, watchedLastOf, refusedSvd, factorsOf, numbersOf, answerOf, svdOf};
 
 // A working state, and whether a rotation made so far was blind.
 pub struct Working {
@@ -54,7 +55,7 @@ fn under_limit(largest: OffDiag) -> bool
 
 // The mark: no rotation was blind, and all sums of a pair's magnitudes are strictly under 2^-44.
 fn is_settled(blind: bool, a: Mat3) -> bool
-    ensures { λ r. ⌜ r ≡ markedOf F blind (a .«data») ⌝ }
+    ensures { λ r. ⌜ r ≡ marked blind (settledOf F (a .«data»)) ⌝ }
 {
     if blind {
         return false;
