@@ -4,6 +4,7 @@ pub mod Branches
 pub mod Choice
 pub mod Powers
 pub mod Squares
+pub mod Rests
 pub mod Loops
 pub mod Exponent
 pub mod Patterns

@@ -4,14 +4,19 @@
 // folded into m, the root of x is that of m * 2^DIGITS at half the exponent. m is scaled by fours to PRECISION digits or one more, so
 // that the whole root q of m * 2^DIGITS has the PRECISION digits of a number, and what is left beyond q's square says whether the
 // next number up is nearer. LOWEST - DIGITS is even, so the halves need no case for a lowest exponent that is odd.
+use crate::bits::is_nan;
+use crate::bits::not_a_number;
 use crate::bits::of_bits;
+use crate::bits::of_number;
 use crate::bits::to_bits;
 use crate::parts::halved;
 use crate::parts::is_odd;
 use crate::parts::parts_of;
+use crate::tried53::tried_root;
 use crate::width::Bits;
 use crate::width::DIGITS;
 use crate::width::Exponent;
+use crate::width::HALF_BIAS;
 use crate::width::INFINITY;
 use crate::width::LEADING;
 use crate::width::LOWEST;
@@ -28,7 +33,7 @@ ghost use lib.Dec.{T};
 ghost use lib.Ieee.{prec, low, hid, ones};
 ghost use Rattle.float.specs.Width.{F};
 ghost use Rattle.float.specs.Root.{rootBitsOf, RootPromise};
-ghost use Rattle.float.specs.Digits.{WholeRoot, ScaledUp, RootPattern};
+ghost use Rattle.float.specs.Digits.{WholeRoot, ScaledUp, RootPattern, QuickRoot};
 
 // A whole root and what is left beyond its square.
 pub struct Whole {
@@ -108,6 +113,41 @@ fn root_pattern(b: Bits) -> Bits
     (biased(h) - s.j) * LEADING + q
 }
 
+// A pattern, and whether it is the root's.
+struct Quick {
+    sure: bool,
+    bits: Bits,
+}
+
+// The root's pattern of a normal number's, where the digits that are tried for it are sure. In the pattern of an odd field the lowest digit
+// of the field stands where the leading digit of the significand belongs; an even one has the odd bit that is folded into m.
+fn quick_root(b: Bits) -> Quick
+    ensures { λ r. ⌜ QuickRoot F b (r .sure) (r .bits) ⌝ }
+{
+    if b < LEADING {
+        return Quick {
+            sure: false,
+            bits: 0,
+        };
+    }
+    if b >= INFINITY {
+        return Quick {
+            sure: false,
+            bits: 0,
+        };
+    }
+    let mut m = b % (2 * LEADING);
+    if m < LEADING {
+        m = 2 * m + 2 * LEADING;
+    }
+    let t = tried_root(b, m);
+    let field = (b / LEADING - 1) / 2 + HALF_BIAS;
+    Quick {
+        sure: t.sure,
+        bits: field * LEADING + t.upper + t.lower,
+    }
+}
+
 // The root on patterns: zeros keep their sign, +infinity stays, negative numbers and NaNs give NAN.
 pub fn root_bits(b: Bits) -> Bits
     ensures { λ r. ⌜ r ≡ rootBitsOf F b ⌝ }
@@ -128,5 +168,13 @@ pub fn root_bits(b: Bits) -> Bits
 pub fn root(x: Real) -> Real
     ensures { λ r. ⌜ RootPromise F x r ⌝ }
 {
-    of_bits(root_bits(to_bits(x)))
+    if is_nan(x) {
+        return not_a_number();
+    }
+    let b = to_bits(x);
+    let t = quick_root(b);
+    if t.sure {
+        return of_number(t.bits);
+    }
+    of_bits(root_bits(b))
 }

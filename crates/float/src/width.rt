@@ -20,6 +20,9 @@ pub const LOWEST: Exponent = -1074;
 
 pub const BIAS: Exponent = 1075;
 
+// Half of the field of a number from 1 up to 2, rounded down.
+pub const HALF_BIAS: Bits = 511;
+
 // The weights in a pattern of the leading digit, which adds 1 to the exponent's field, and of the sign.
 pub const LEADING: Bits = 0x10_0000_0000_0000;
 
