@@ -1,29 +1,27 @@
 -- Where an operation makes a NaN of numbers: a fraction rounds to a number with its own sign, so only zeros and infinities can. Rounding keeps order too,
 -- so a number without a sign taken off what is below +infinity leaves what is below +infinity.
-use Rattle.float.proofs.Words.{_≡_, refl, sym, ap, _∙_, Bool, true, false, not, _&&_, _||_, cond, true≢false, false≢true, inl, inr, ℕ, zero, suc}
-use Rattle.float.proofs.Words.{_+_, _-_, _*_, _%_, _^_, _≤_, _<_, zero-mul, zero-div, zero-lt-suc, mul-pos, mul-le-mul-right, le-trans, le-of-eq}
-use Rattle.float.proofs.Words.{le-of-lt, lt-of-lt-of-le, div-lt-iff-lt-mul, arith, T, ltb, eqb, leb, lt→ltb, eqb·suc-zero, ℤ, pos, pow-pos, pow-mono}
-use Rattle.float.proofs.Words.{shl-lt, Float, nan, inf, fin, Format, binary32, binary64, prec, emax, low, up, down, hid, ones, top, unlike}
-use Rattle.float.proofs.Words.{round, sum, add, sub, minus, mul, div, neg, lt, eq, le, isNan, fits, ofBits, toBits, ne-eqb, lt-ltb, le-ltb, ltb-true}
+use Rattle.float.proofs.Words.{_≡_, refl, sym, ap, _∙_, Bool, true, false, not, _&&_, _||_, cond, true≢false, false≢true, inl, inr, ℕ, zero, suc, _-_}
+use Rattle.float.proofs.Words.{_*_, _^_, _≤_, _<_, zero-mul, zero-div, zero-lt-suc, mul-pos, mul-le-mul-right, le-trans, le-of-eq, le-of-lt, arith, T}
+use Rattle.float.proofs.Words.{ltb, eqb, lt→ltb, eqb·suc-zero, ℤ, pos, pow-pos, Float, nan, inf, fin, Format, binary32, binary64, low, up, down, unlike}
+use Rattle.float.proofs.Words.{round, sum, add, sub, minus, mul, div, neg, lt, eq, le, isNan, fits, ne-eqb, lt-ltb, le-ltb}
 use mathlib.Core.Bool.{and-false}
-use lib.Ieee.Bits.{ofBits-toBits}
-use lib.Ieee.Exact.{HasValue, round-exact}
-use lib.Ieee.Fits.{two, reach, down-pos}
+use lib.Ieee.Exact.{HasValue}
+use lib.Ieee.Fits.{two, down-pos}
 use lib.Ieee.Order.{round-mono}
 use lib.Ieee.Positive.{positive}
 use Rattle.float.specs.Constants.{zeroF}
 use Rattle.float.specs.Exactly.{OneOfThree}
 use Rattle.float.specs.Nearest.{inUnits, IsRoot}
-use Rattle.float.specs.Parts.{fieldOf, significandOf, exponentOf}
 use Rattle.float.specs.Root.{rootOf}
 use Rattle.float.specs.Sign.{finite, infinite, signBitOf}
 use Rattle.float.proofs.Choice.{by-leb, either}
 use Rattle.float.proofs.Correct.{correct}
+use Rattle.float.proofs.Exact.{own-size}
 use Rattle.float.proofs.Keys.{key, lt-key, eq-key, keyed, le-tests}
 use Rattle.float.proofs.Negation.{level-zeros}
-use Rattle.float.proofs.Patterns.{hid-pos, only-nan, finite-of}
+use Rattle.float.proofs.Patterns.{only-nan}
 use Rattle.float.proofs.Under.{of-round, round-no-nan, add-no-nan}
-use Rattle.float.proofs.Units.{twice-hid, in-units, parts-value, significand-lt}
+use Rattle.float.proofs.Units.{in-units}
 use Rattle.float.proofs.Zeros.{zero-is, zero-of-eq}
 
 -- ---- a NaN stays one
@@ -164,21 +162,6 @@ square-infinite f (inf false) h = refl
 square-infinite f (fin s m e) h = absurd (false≢true h)
 
 -- ---- differences: a number without a sign taken off what is below +infinity
-
--- a value of the format is a pattern's digits in units, so it rounds to its own size
-own-size : (f : Format) (m : ℕ) (e : ℤ) → T (fits f (fin false m e)) → HasValue (round f false (m * up e) (down e)) false (m * up e) (down e)
-unfolding finite
-own-size f m e t =
-    let b = toBits f (fin false m e) in
-    let is : ofBits f b ≡ fin false m e = ofBits-toBits f (fin false m e) t in
-    let h : b % top f < ones f * hid f = ltb-true (b % top f) (ones f * hid f) (sym (finite-of f b) ∙ ap finite is) in
-    let q = significandOf f b in
-    let j = exponentOf f b in
-    let v : HasValue (fin false m e) (leb (top f) b) (q * 2 ^ j) (2 ^ low f) = rw is at (parts-value f b h) in
-    let field : fieldOf f b < ones f = div-lt-iff-lt-mul (hid-pos f) .1 h in
-    let small : q < 2 ^ prec f = rw (twice-hid f) at (significand-lt f b) in
-    let room : prec f + j ≤ low f + suc (emax f) = omega (arith, two f, reach f) in
-    round-exact f false (m * up e) (down e) q j (down-pos e) small (lt-of-lt-of-le (shl-lt (prec f) j small) (pow-mono room)) (v .1)
 
 negative-round : (f : Format) (n d : ℕ) → lt (round f true n d) (inf false) ≡ true
 negative-round f n d = negative-below (round f true n d) (round-no-nan f true n d) (round-signed f true n d)

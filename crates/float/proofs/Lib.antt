@@ -15,9 +15,11 @@ pub mod Keys
 pub mod Under
 pub mod Zeros
 pub mod Units
+pub mod Exact
 pub mod Rounding
 pub mod Correct
 pub mod Invalid
+pub mod Magnitude
 pub mod Named
 pub mod Assembled
 pub mod Unique

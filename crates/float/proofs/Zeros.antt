@@ -62,7 +62,7 @@ product-above f n d h =
     above-of-le (mul f (epsilonF f) (epsilonF f)) (mul f (epsilonF f) (fin false n d)) (square-positive f)
     (mul-mono f (epsilonF f) (epsilonF f) (epsilonF f) (fin false n d) p p p (b .0) (cross→le (epsilonF f) (epsilonF f) p p (le-refl _)) (b .1))
 
-zero-lt-above : (e : ℤ) (z : Float) → T (above z) → lt (fin false 0 e) z ≡ true
+pub zero-lt-above : (e : ℤ) (z : Float) → T (above z) → lt (fin false 0 e) z ≡ true
 unfolding lt
 zero-lt-above e nan a = absurd a
 zero-lt-above e (inf true) a = absurd a

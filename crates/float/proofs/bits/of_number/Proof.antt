@@ -1,5 +1,5 @@
 -- A finite number's pattern is no NaN's.
-use Rattle.float.proofs.Words.{_%_, _≤_, _*_, le-of-lt, lt-of-le-of-lt, ones, hid, top, needs, arith}
+use Rattle.float.proofs.Words.{needs, arith}
 use Rattle.float.specs.Width.{F}
 use Rattle.float.proofs.Patterns.{no-nan-bits}
 use Rattle.float.proofs.bits.of_number.Statement.{statement}

@@ -1,5 +1,5 @@
 -- The digits are those of the significand with the odd bit, so where they have a nearest root `assembled-nearest` puts the pattern together.
-use Rattle.float.proofs.Words.{_≡_, sym, ap, _∙_, subst, ⊎-elim, true, false, true≢false, ℕ, _+_, _-_, _*_, _/_, _%_, _^_, _≤_, _<_, arith, hid, ones, needs}
+use Rattle.float.proofs.Words.{_≡_, sym, _∙_, subst, ⊎-elim, true, false, true≢false, ℕ, _+_, _-_, _*_, _/_, _%_, _^_, _≤_, _<_, arith, hid, needs}
 use Rattle.float.specs.Width.{F}
 use Rattle.float.specs.Parts.{significandOf, exponentOf}
 use Rattle.float.specs.Digits.{RootPattern, QuickRoot}

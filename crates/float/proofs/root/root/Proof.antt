@@ -1,6 +1,6 @@
 -- A NaN has none. Of a number the root is the quick one where that is sure, and else the form on patterns, between a writing and a reading of the bits. What
 -- either answers is the nearest value by `correct`.
-use Rattle.float.proofs.Words.{_≡_, sym, ap, _∙_, ℕ, ofBits, needs}
+use Rattle.float.proofs.Words.{sym, ap, _∙_, ℕ, ofBits, needs}
 use denote.Floats.{passes}
 use lib.Ieee.Bits.{ofBits-toBits}
 use Rattle.float.specs.Width.{F}
