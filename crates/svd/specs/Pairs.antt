@@ -11,11 +11,21 @@ use Rattle.jacobi.specs.declared.pairs.Pair.{Pair}
 use Rattle.jacobi.specs.declared.pairs.Pair.the-variants.{P12, P13, P23}
 use Rattle.jacobi.specs.declared.pairs.OffDiag.{OffDiag}
 use Rattle.svd.specs.Polar.{twoSidedOf, blindSides}
+use Rattle.svd.specs.declared.pairs.Elements.{Elements}
 use Rattle.svd.specs.declared.polar.TwoSided.{TwoSided}
 
 -- the number at (i, j)
 abbrev pub entry : List Float → ℕ → ℕ → Float
 entry a i j = entryOf 3 a i j
+
+-- of a pair p < q: the two numbers on the diagonal, and the two beside it
+abbrev pub elementsOf : Pair → List Float → Elements
+elementsOf x a = record {
+  app = entry a (indexP x) (indexP x);
+  aqp = entry a (indexQ x) (indexP x);
+  apq = entry a (indexP x) (indexQ x);
+  aqq = entry a (indexQ x) (indexQ x);
+}
 
 -- ---- the largest pair by the sum of its two magnitudes beside the diagonal
 

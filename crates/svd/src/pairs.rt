@@ -13,7 +13,7 @@ ghost use Rattle.float.specs.Sign.{magnitudeOf};
 ghost use Rattle.float.specs.Width.{F};
 ghost use Rattle.matrix.specs.Square.{mat3};
 ghost use Rattle.jacobi.specs.declared.pairs.Pair.the-variants.{P12, P13, P23};
-ghost use Rattle.svd.specs.Pairs.{offDiagOf, sidesOf, appliedOf};
+ghost use Rattle.svd.specs.Pairs.{elementsOf, offDiagOf, sidesOf, appliedOf};
 
 // The sum of a pair's two magnitudes beside the diagonal (dense3x3/svd.rs, lines 49 to 51).
 fn pair_size(apq: Real, aqp: Real) -> Real
@@ -40,25 +40,50 @@ pub fn find_largest_off_diag_nonsym(a: Mat3) -> OffDiag
     )
 }
 
+// Of a pair: the two numbers on the diagonal, and the two beside it.
+struct Elements {
+    app: Real,
+    aqp: Real,
+    apq: Real,
+    aqq: Real,
+}
+
+// The four numbers that the rotation of a pair is chosen by (line 29).
+fn get_rotation_elements(a: Mat3, p: Pair) -> Elements
+    ensures { λ n. ⌜ n ≡ elementsOf p (a .«data») ⌝ }
+{
+    let d = a.data;
+    let a11 = d[0];
+    let a22 = d[4];
+    let a33 = d[8];
+    match p {
+        Pair::P12 => Elements {
+            app: a11,
+            aqp: d[1],
+            apq: d[3],
+            aqq: a22,
+        },
+        Pair::P13 => Elements {
+            app: a11,
+            aqp: d[2],
+            apq: d[6],
+            aqq: a33,
+        },
+        Pair::P23 => Elements {
+            app: a22,
+            aqp: d[5],
+            apq: d[7],
+            aqq: a33,
+        },
+    }
+}
+
 // The two-sided rotation of a pair (lines 29 and 30).
 pub(crate) fn rotation_of(a: Mat3, p: Pair) -> TwoSided
     ensures { λ r. ⌜ r ≡ sidesOf F p (a .«data») ⌝ }
 {
-    let d = a.data;
-    let a11 = d[0];
-    let a21 = d[1];
-    let a31 = d[2];
-    let a12 = d[3];
-    let a22 = d[4];
-    let a32 = d[5];
-    let a13 = d[6];
-    let a23 = d[7];
-    let a33 = d[8];
-    match p {
-        Pair::P12 => compute_two_sided_rotation(a11, a21, a12, a22),
-        Pair::P13 => compute_two_sided_rotation(a11, a31, a13, a33),
-        Pair::P23 => compute_two_sided_rotation(a22, a32, a23, a33),
-    }
+    let n = get_rotation_elements(a, p);
+    compute_two_sided_rotation(n.app, n.aqp, n.apq, n.aqq)
 }
 
 // Rows and columns 1 and 2, with 3 beside them (line 127).
