@@ -41,6 +41,13 @@ pub fn normals(count: usize) -> Vec<f64> {
     (0..count).map(|_| normal(&mut words)).collect()
 }
 
+/// From 1 up to 2, as the sums are whose roots a rotation takes.
+pub fn from_one_to_two(count: usize) -> Vec<f64> {
+    let mut words = Words(4);
+    let mut some = || 1.0 + words.below(1 << 52) as f64 / (1u64 << 52) as f64;
+    (0..count).map(|_| some()).collect()
+}
+
 /// Normals and subnormals in random order.
 pub fn half_subnormals(count: usize) -> Vec<f64> {
     let mut words = Words(2);

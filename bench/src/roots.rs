@@ -32,15 +32,29 @@ fn roots(function: Root, numbers: &[f64]) -> u64 {
     fold
 }
 
-fn race_of_roots(what: &str, numbers: &[f64]) -> Result<Race, String> {
-    let ours = || roots(zanikory_root, numbers);
-    let theirs = || roots(hardware_root, numbers);
+/// Each root is of a number to which the root before it was added, so that it must wait for that one: as
+/// in a rotation, where a root follows from another.
+#[inline(never)]
+fn chain(function: Root, numbers: &[f64]) -> u64 {
+    let function = black_box(function);
+    // SAFETY: both functions take every double.
+    let last = numbers.iter().fold(0.0, |root, &x| unsafe { function(x + root) });
+    last.to_bits()
+}
+
+type Loop = fn(Root, &[f64]) -> u64;
+
+fn race_of_roots(what: &str, calls: Loop, numbers: &[f64]) -> Result<Race, String> {
+    let ours = || calls(zanikory_root, numbers);
+    let theirs = || calls(hardware_root, numbers);
     race(what, "hardware", numbers.len(), ours, theirs)
 }
 
 pub fn all(tell: &mut dyn FnMut(Race)) -> Result<(), String> {
-    tell(race_of_roots("root", &inputs::normals(NUMBERS))?);
+    tell(race_of_roots("root", roots, &inputs::normals(NUMBERS))?);
+    let numbers = inputs::from_one_to_two(NUMBERS);
+    tell(race_of_roots("root, in a chain", chain, &numbers)?);
     let numbers = inputs::half_subnormals(NUMBERS);
-    tell(race_of_roots("root, half subnormals", &numbers)?);
+    tell(race_of_roots("root, half subnormals", roots, &numbers)?);
     Ok(())
 }

@@ -67,11 +67,8 @@ itself-leaves f false m e =
     let a = m * up e * down e in
     rw (le-ltb a a (le-refl a)) (round-zero f false (a - a) (down e * down e) (mul-pos (down-pos e) (down-pos e)) (omega arith))
 
-pub itself-off : (f : Format) (x : Float) → eq (sub f x x) (zeroF f) ≡ finite x
-itself-off f x = rw (zero-is f) (go x)
-  where
-    go : (x : Float) → eq (sub f x x) (fin false 0 (pos 0)) ≡ finite x
-    go nan = unfold sub add neg eq finite in refl
-    go (inf true) = unfold sub add neg eq finite in refl
-    go (inf false) = unfold sub add neg eq finite in refl
-    go (fin s m e) = rw (itself-leaves f s m e) (unfold eq finite in refl)
+pub itself-off : (f : Format) (x : Float) → eq (sub f x x) (sub f x x) ≡ finite x
+itself-off f nan = unfold sub add eq finite in refl
+itself-off f (inf true) = unfold sub add neg eq finite in refl
+itself-off f (inf false) = unfold sub add neg eq finite in refl
+itself-off f (fin s m e) = rw (itself-leaves f s m e) (unfold eq finite in refl)
