@@ -1,9 +1,13 @@
-// The correctly rounded root, digit by digit from the bits. Real is f64 (float::width).
+// The correctly rounded root, from the bits. Real is f64 (float::width).
 //
 // A finite x above 0 is m * 2^e, which is m * 2^DIGITS at the exponent e - DIGITS. With that exponent halved downwards and the odd bit
 // folded into m, the root of x is that of m * 2^DIGITS at half the exponent. m is scaled by fours to PRECISION digits or one more, so
 // that the whole root q of m * 2^DIGITS has the PRECISION digits of a number, and what is left beyond q's square says whether the
 // next number up is nearer. LOWEST - DIGITS is even, so the halves need no case for a lowest exponent that is odd.
+//
+// Of a normal number the rounded root is tried first: a guess, one exact step and a test (`tried53`, which is for 53 digits; a root of another width
+// takes its digits from a file of its own, by the one `use` line that names this one). What the test leaves open, and what is no normal number,
+// is worked out digit by digit.
 use crate::bits::is_nan;
 use crate::bits::not_a_number;
 use crate::bits::of_bits;
