@@ -6,7 +6,7 @@
 use crate::guess53::guess_for;
 use crate::width::Bits;
 ghost use mathlib.Core.Path.{_≡_};
-ghost use mathlib.Core.Bool.{true, false};
+ghost use mathlib.Core.Bool.{true};
 ghost use Prim.Native.Nat.{_+_, _*_, _^_, _<_, _≤_};
 ghost use lib.Ieee.{hid};
 ghost use Rattle.float.specs.Width.{F};
@@ -18,7 +18,8 @@ const LAST: Bits = 0x20_0000;
 // A rest is small below this.
 const SMALL: Bits = 0x4_0000_0000;
 
-// The digits in two parts that are still to be added, and whether they are the nearest to the root.
+// The digits in two parts, since the exponent can be put to the upper one while the lower one is still worked out; and whether their sum is the
+// nearest to the root.
 pub(crate) struct Tried {
     pub sure: bool,
     pub upper: Bits,
