@@ -8,5 +8,10 @@ extern FILE *stderr;
 
 int printf(const char *restrict format, ...);
 int fprintf(FILE *restrict file, const char *restrict format, ...);
+int sscanf(const char *restrict text, const char *restrict format, ...);
+
+FILE *fopen(const char *restrict path, const char *restrict mode);
+char *fgets(char *restrict line, int size, FILE *restrict file);
+int fclose(FILE *file);
 
 #endif
