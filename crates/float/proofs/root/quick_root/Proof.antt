@@ -3,7 +3,7 @@ use Rattle.float.proofs.Words.{_≡_, sym, _∙_, subst, ⊎-elim, true
 use Rattle.float.specs.Width.{F}
 use Rattle.float.specs.Parts.{significandOf, exponentOf}
 use Rattle.float.specs.Digits.{RootPattern, QuickRoot}
-use Rattle.float.proofs.Assembled.{odd-field, even-field, assembled-nearest}
+use Rattle.float.proofs.Assembled.{halfBias, odd-field, even-field, assembled-nearest}
 use Rattle.float.proofs.root.quick_root.Statement.{statement}
 use Rattle.float.proofs.root.quick_root.Tie as tie
 
@@ -29,7 +29,7 @@ returns-3 c =
     let b = j .before .before .before .args .b in
     let t = c .before .before .tried-root in
     let q : ℕ = t .result .upper + t .result .lower in
-    let e : (exponentOf F b / 2 + 511) * hid F + q ≡ ((b / hid F - 1) / 2 + 511) * hid F + t .result .upper + t .result .lower = omega arith in
+    let e : (exponentOf F b / 2 + halfBias F) * hid F + q ≡ ((b / hid F - 1) / 2 + halfBias F) * hid F + t .result .upper + t .result .lower = omega arith in
     record {
       is = λ sure. subst (RootPattern F b) e
           (assembled-nearest F b (j .if3 .m) q (j .before .before .if1 .left) (j .before .if2 .left) (digits j) (range j .0) (range j .1)
