@@ -3,12 +3,10 @@
    bits are shown here; those of the forms on bits are promised, and shown beside them. */
 #include <stdint.h>
 #include <stdio.h>
-#include <string.h>
 
+#include "bits.h"
 #include "shown.h"
 
-#define THE_NAN 0x7FF8000000000000u
-#define ONE 0x3FF0000000000000u
 #define MINUS_ONE 0xBFF0000000000000u
 
 enum column { INPUT, ROOT, SIGNUM };
@@ -30,20 +28,6 @@ static const volatile struct row rows[] = {
     {"4", {0x4010000000000000u, 0x4000000000000000u, ONE}},
     {"+infinity", {0x7FF0000000000000u, 0x7FF0000000000000u, ONE}},
 };
-
-static double double_of(uint64_t bits)
-{
-    double x;
-    memcpy(&x, &bits, sizeof x);
-    return x;
-}
-
-static uint64_t bits_of(double x)
-{
-    uint64_t bits;
-    memcpy(&bits, &x, sizeof bits);
-    return bits;
-}
 
 /* Hands back what it is given. Its lines show that the host's own way into a call and back keeps every
    bit, so that a signalling NaN arrives as one. */

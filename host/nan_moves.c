@@ -8,14 +8,11 @@
 #include <stdio.h>
 #include <string.h>
 
+#include "bits.h"
 #include "shown.h"
 #include "zanikory.h"
 
-#define SIGN 0x8000000000000000u
-#define ONE 0x3FF0000000000000u
 #define TWO 0x4000000000000000u
-#define INFINITE 0x7FF0000000000000u
-#define THE_NAN 0x7FF8000000000000u
 #define MAX 1.7976931348623157e308
 #define TINY 4.9406564584124654e-324
 #define LARGE 0x1p1023
@@ -35,20 +32,6 @@ static const volatile uint64_t patterns[] = {
 };
 
 enum { PATTERNS = sizeof patterns / sizeof patterns[0], NANS = 4, NOT_FINITE = 6, ROOM = 36 };
-
-static double double_of(uint64_t bits)
-{
-    double x;
-    memcpy(&x, &bits, sizeof x);
-    return x;
-}
-
-static uint64_t bits_of(double x)
-{
-    uint64_t bits;
-    memcpy(&bits, &x, sizeof bits);
-    return bits;
-}
 
 /* ---- inputs: a pattern at one place among whole numbers, and then all places patterns */
 

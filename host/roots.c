@@ -15,14 +15,11 @@
 #include <stdio.h>
 #include <string.h>
 
+#include "bits.h"
 #include "shown.h"
 
 /* The weight in a pattern of the exponent's field, which is that of a significand's leading digit. */
 #define LEADING 0x10000000000000u
-#define SIGN 0x8000000000000000u
-#define INFINITE 0x7FF0000000000000u
-#define THE_NAN 0x7FF8000000000000u
-#define ONE 0x3FF0000000000000u
 #define FOUR 0x4010000000000000u
 
 enum { INTERVALS = 64, CURVES = 8, WRONG_SHOWN = 5 };
@@ -37,20 +34,6 @@ struct group {
     uint64_t turns; /* so many, or if it is 0 as many as make up the group's share of COUNT */
     uint64_t roots, wrong, by_digits;
 };
-
-static double double_of(uint64_t bits)
-{
-    double x;
-    memcpy(&x, &bits, sizeof x);
-    return x;
-}
-
-static uint64_t bits_of(double x)
-{
-    uint64_t bits;
-    memcpy(&bits, &x, sizeof bits);
-    return bits;
-}
 
 /* ---- the guess and its test, once more */
 

@@ -42,6 +42,21 @@ fn last_digits(r: Bits, inverse: Bits) -> Bits
     (r * inverse + 0x80_0000_0000) / 0x100_0000_0000
 }
 
+// How many times 2^22 goes into q with the square of e put to it, and into what is below q with that taken off.
+fn above(q: Bits, square: Bits) -> Bits
+    requires { ⌜ (q < 2 ^ 54) × (square < 2 ^ 54) ⌝ }
+    ensures { λ u. ⌜ u * 2 ^ 22 ≤ q + square ⌝ }
+{
+    (q + square) / (2 * LAST)
+}
+
+fn below(q: Bits, square: Bits) -> Bits
+    requires { ⌜ square < q ⌝ }
+    ensures { λ v. ⌜ v * 2 ^ 22 + square < q ⌝ }
+{
+    (q - 1 - square) / (2 * LAST)
+}
+
 // Whether q = a * 2^21 + e is the nearest to the root of n = (a * a + r) * 2^42. n has r * 2^42 - 2^22 * (a * e) - e * e beyond the square of q, and
 // that must be above -q and at most q. Divided by 2^22 all of it fits in 64 digits.
 fn is_nearest(r: Bits, a: Bits, e: Bits) -> bool
@@ -50,10 +65,10 @@ fn is_nearest(r: Bits, a: Bits, e: Bits) -> bool
 {
     let q = a * LAST + e;
     let square = e * e;
-    let above = (q + square) / (2 * LAST);
-    let below = (q - 1 - square) / (2 * LAST);
-    let beyond = std::num::wrapping_sub_u64(r * (LAST / 2) + below, a * e);
-    beyond <= above + below
+    let u = above(q, square);
+    let v = below(q, square);
+    let beyond = std::num::wrapping_sub_u64(r * (LAST / 2) + v, a * e);
+    beyond <= u + v
 }
 
 // The digits that come of the guess a of the first ones and of the guessed inverse, whatever these are.

@@ -41,8 +41,7 @@ pairOf f a = offDiagOf f a .pair
 -- ---- the rotation of a pair, and of the largest one
 
 unfoldable pub sidesOf : Format → Pair → List Float → TwoSided
-sidesOf f x a =
-    twoSidedOf f (entry a (indexP x) (indexP x)) (entry a (indexQ x) (indexP x)) (entry a (indexP x) (indexQ x)) (entry a (indexQ x) (indexQ x))
+sidesOf f x a = let n = elementsOf x a in twoSidedOf f (n .app) (n .aqp) (n .apq) (n .aqq)
 
 abbrev pub chosenOf : Format → List Float → TwoSided
 chosenOf f a = sidesOf f (pairOf f a) a

@@ -8,7 +8,7 @@ use Rattle.float.proofs.root.quick_root.Statement.{statement}
 use Rattle.float.proofs.root.quick_root.Tie as tie
 
 none : (b : ℕ) → QuickRoot F b false 0
-none b = record { is = λ e. absurd (true≢false (sym e)) }
+none b e = absurd (true≢false (sym e))
 
 module _ (c : tie.Joined3) where
   -- m has the digits of a significand, and perhaps one more
@@ -24,17 +24,15 @@ module _ (c : tie.Joined3) where
       (c .if3 .came)
 
 returns-3 : tie.Need-returns-3
-returns-3 c =
+returns-3 c sure =
     let j = c .before .before .before in
     let b = j .before .before .before .args .b in
     let t = c .before .before .tried-root in
     let q : ℕ = t .result .upper + t .result .lower in
     let e : (exponentOf F b / 2 + halfBias F) * hid F + q ≡ ((b / hid F - 1) / 2 + halfBias F) * hid F + t .result .upper + t .result .lower = omega arith in
-    record {
-      is = λ sure. subst (RootPattern F b) e
-          (assembled-nearest F b (j .if3 .m) q (j .before .before .if1 .left) (j .before .if2 .left) (digits j) (range j .0) (range j .1)
-          (t .ensures .nearest sure));
-    }
+    subst (RootPattern F b) e
+    (assembled-nearest F b (j .if3 .m) q (j .before .before .if1 .left) (j .before .if2 .left) (digits j) (range j .0) (range j .1)
+    (t .ensures .nearest sure))
 
 pub quick-root-spec : {M : Type 1} → statement M
 quick-root-spec = tie.close (tie.spec

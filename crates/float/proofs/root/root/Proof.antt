@@ -25,7 +25,7 @@ returns-2 c =
     let fit = passes _ (s .good .0 .1) in
     promised F x (c .of-number .result) fit
     (c .of-number .ensures
-    ∙ c .before .before .quick-root .ensures .is (c .before .if2 .taken) .is
+    ∙ c .before .before .quick-root .ensures (c .before .if2 .taken) .is
     ∙ ap (λ (b : ℕ). rootOf F (ofBits F b)) (c .before .before .before .to-bits .ensures)
     ∙ ap (rootOf F) (ofBits-toBits F x fit))
 
@@ -41,5 +41,5 @@ returns-3 c =
 pub root-spec : {M : Type 1} → statement M
 root-spec = tie.close (tie.spec
     (λ c κs. search needs) (λ c κs. search needs) returns (λ c κs. search needs) (λ c κs. search needs)
-    (λ c κs. c .before .quick-root .ensures .is (c .if2 .taken) .finite) returns-2
+    (λ c κs. c .before .quick-root .ensures (c .if2 .taken) .finite) returns-2
     (λ c κs. search needs) (λ c κs. search needs) returns-3)

@@ -1,5 +1,5 @@
 -- a is large and e is small, so nothing passes 2^64 and e * e is below q. Then `nearest-by` says what the test says.
-use Rattle.float.proofs.Words.{ℕ, _+_, _-_, _*_, _/_, _^_, _≤_, mul-le-mul, leb-true, arith, needs}
+use Rattle.float.proofs.Words.{_+_, _*_, _^_, _≤_, mul-le-mul, leb-true, arith, needs}
 use Rattle.float.proofs.Rests.{nearest-by}
 use Rattle.float.proofs.tried53.is_nearest.Statement.{statement}
 use Rattle.float.proofs.tried53.is_nearest.Tie as tie
@@ -16,26 +16,21 @@ module _ (s : tie.Start) where
 
 returns : tie.Need-returns
 returns c small =
-    let a = c .before .args .a in
-    let e = c .before .args .e in
-    let q : ℕ = a * 2 ^ 21 + e in
-    let above : ℕ = (q + e * e) / 2 ^ 22 in
-    let below : ℕ = (q - 1 - e * e) / 2 ^ 22 in
+    let s = c .before .before .before in
+    let u = c .before .before .above in
+    let v = c .before .below in
     let beyond = c .wrapping-sub-u64 .result in
-    let p = square (c .before) in
-    let t = product (c .before) in
-    let l = leb-true beyond (above + below) small in
-    nearest-by (c .before .args .r) a e above below beyond (omega arith) (omega arith) (omega (arith, c .wrapping-sub-u64 .ensures)) l
+    let l = leb-true beyond (u .result + v .result) small in
+    let p = product s in
+    nearest-by (s .args .r) (s .args .a) (s .args .e) (u .result) (v .result) beyond (u .ensures) (v .ensures)
+    (omega (arith, c .wrapping-sub-u64 .ensures)) l
 
 pub is-nearest-spec : {M : Type 1} → statement M
 is-nearest-spec = tie.close (tie.spec
     (λ c. search needs) (λ c. search needs)
     (λ c. let p = square c in omega arith)
-    (λ c. let p = square c in omega arith)
-    (λ c. search needs) (λ c. search needs) (λ c. search needs)
-    (λ c. let p = square c in omega arith)
-    (λ c. search needs) (λ c. search needs) (λ c. search needs) (λ c. search needs)
-    (λ c. let p = product c in omega arith)
-    (λ c κs. search needs)
-    (λ c. let p = square (c .before) in omega arith)
-    returns)
+    (λ c κs. let p = square c in (omega arith, omega arith))
+    (λ c κs. let p = square (c .before) in omega arith)
+    (λ c. search needs) (λ c. search needs)
+    (λ c. let p = product (c .before .before) in omega arith)
+    (λ c κs. search needs) (λ c. search needs) returns)

@@ -1,0 +1,28 @@
+/* A double and its bits, both ways, and some that the programs here look for. */
+#ifndef BITS_H
+#define BITS_H
+
+#include <stdint.h>
+#include <string.h>
+
+#define SIGN 0x8000000000000000u
+#define ONE 0x3FF0000000000000u
+#define INFINITE 0x7FF0000000000000u
+/* the one NaN of root, signum and a factor that stops */
+#define THE_NAN 0x7FF8000000000000u
+
+static inline double double_of(uint64_t bits)
+{
+    double x;
+    memcpy(&x, &bits, sizeof x);
+    return x;
+}
+
+static inline uint64_t bits_of(double x)
+{
+    uint64_t bits;
+    memcpy(&bits, &x, sizeof bits);
+    return bits;
+}
+
+#endif
