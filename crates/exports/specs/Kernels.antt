@@ -6,7 +6,7 @@ use lib.Dec.{eqb}
 use lib.ListN.{length}
 use lib.Ieee.{Float, Format}
 use Rattle.float.specs.Choice.{pick}
-use Rattle.matrix.specs.Answer.{Answer}
+use Rattle.matrix.specs.Answer.{Answer, whenDone}
 use Rattle.matrix.specs.Arithmetic.{mulOf, symMulOf}
 use Rattle.cholesky.specs.Factor.{FactorAnswer, refusedFactor, factor2Of, factor3Of}
 use Rattle.cholesky.specs.Solve.{solve2Of, solve3Of}
@@ -14,7 +14,7 @@ use Rattle.eigen.specs.Eigen3x3.{eigenOf}
 use Rattle.eigen.specs.declared.eigen3x3.Eigen3.{Eigen3}
 use Rattle.svd.specs.Svd3x3.{svdOf}
 use Rattle.svd.specs.declared.svd3x3.Svd3.{Svd3}
-use Rattle.exports.specs.Slices.{into, intoFirst, given, whenDone}
+use Rattle.exports.specs.Slices.{into, intoFirst, given}
 
 -- ---- y = A x, with the numbers of the matrix in a
 

@@ -19,7 +19,3 @@ intoFirst n out r = pick (leb n (length out)) r (refused 2 out)
 -- an input must have n numbers
 abbrev pub given : ℕ → List Float → List Float → Answer (List Float) → Answer (List Float)
 given n a out r = pick (eqb (length a) n) r (refused 1 out)
-
--- out takes the numbers where the code is 0
-abbrev pub whenDone : Answer (List Float) → List Float → Answer (List Float)
-whenDone r out = record { code = r .code; value = pick (eqb (r .code) 0) (r .value) out }

@@ -1,6 +1,6 @@
--- A turn that the mark does not vouch for, and a run that is watched for one. Definitions only.
+-- A turn that the mark does not vouch for, a run that is watched for one, and the mark. Definitions only.
 use mathlib.Core.Path.{_≡_}
-use mathlib.Core.Bool.{Bool, false, not, _&&_, _||_}
+use mathlib.Core.Bool.{Bool, true, false, not, _&&_, _||_}
 use Prim.Native.Nat.{ℕ, _<_}
 use lib.Ieee.{Float, Format, eq}
 use Rattle.jacobi.specs.Rotation.{isGone, tinyDiagonal}
@@ -14,6 +14,11 @@ blindOf f apq app aqq = not (isGone f apq) && (tinyDiagonal f app aqq && not (eq
 -- the mark: no rotation was blind, and the end is settled
 abbrev pub marked : Bool → Bool → Bool
 marked blind settled = not blind && settled
+
+-- the mark as a byte
+abbrev pub markOf : Bool → ℕ
+markOf true = 1
+markOf false = 0
 
 -- ---- a run that is watched: beside the state it has whether a rotation made so far was blind
 

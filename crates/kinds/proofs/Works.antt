@@ -6,6 +6,7 @@ use Rattle.float.proofs.Choice.{chosen, by-eqb}
 use Rattle.float.proofs.Finite.{both-true, append-passes}
 use Rattle.matrix.specs.Places.{zeros}
 use Rattle.matrix.proofs.Owed.{not-five}
+use Rattle.jacobi.specs.Blind.{markOf}
 use Rattle.cholesky.specs.Factor.{FactorAnswer}
 use Rattle.cholesky.specs.Pivots.{Stopped}
 use Rattle.cholesky.specs.Solve.{factorAndSolve2Of, factorAndSolve3Of}
@@ -20,7 +21,7 @@ use Rattle.svd.specs.Svd3x3.{svdOf}
 use Rattle.svd.proofs.Owed.{svd2-owed, svd3-owed}
 use Rattle.svd.specs.declared.svd3x3.Svd3.{Svd3}
 use Rattle.kinds.specs.Table.{kindNumbered}
-use Rattle.kinds.specs.Work.{firstOf, markOf, refusedKind, fromEigen2, fromEigen3, fromSvd2, fromSvd3, fromFactor, fromSolved, usedFinite}
+use Rattle.kinds.specs.Work.{firstOf, refusedKind, fromEigen2, fromEigen3, fromSvd2, fromSvd3, fromFactor, fromSolved, usedFinite}
 use Rattle.kinds.specs.Work.{answeredBy, workOf}
 use Rattle.kinds.specs.declared.table.Kind.{Kind}
 use Rattle.kinds.specs.declared.work.Asked.{Asked}

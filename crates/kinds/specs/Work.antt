@@ -1,6 +1,6 @@
 -- What each kind answers: the one place that hands numbers to a kernel and takes its values back. `Asked` is what a request asks: its kind, its way
 -- and its numbers. `Worked` is a kernel's answer as a record has it: three values, nine numbers left and nine right. Definitions only.
-use mathlib.Core.Bool.{Bool, true, false, _&&_}
+use mathlib.Core.Bool.{Bool, _&&_}
 use mathlib.Core.List.{List}
 use Prim.Native.Nat.{ℕ}
 use lib.Dec.{eqb, ltb}
@@ -9,6 +9,7 @@ use Rattle.float.specs.Choice.{pick}
 use Rattle.float.specs.Constants.{zeroF}
 use Rattle.float.specs.Sign.{allFinite}
 use Rattle.matrix.specs.Places.{zeros, at, tabulate}
+use Rattle.jacobi.specs.Blind.{markOf}
 use Rattle.cholesky.specs.Factor.{FactorAnswer, factor2Of, factor3Of}
 use Rattle.cholesky.specs.Solve.{SolvedAnswer, factorAndSolve2Of, factorAndSolve3Of}
 use Rattle.eigen.specs.Eigen2x2.{eigen2Of}
@@ -34,11 +35,6 @@ firstOf k xs = tabulate k (at xs)
 -- the first k of the numbers in n places, and +0 in the others
 abbrev pub padded : Format → ℕ → ℕ → List Float → List Float
 padded f n k xs = tabulate n (λ (i : ℕ). pick (ltb i k) (at xs i) (zeroF f))
-
--- the mark in byte 7
-abbrev pub markOf : Bool → ℕ
-markOf true = 1
-markOf false = 0
 
 -- the mark of a kind that makes no rotation: 1 with code 0
 abbrev pub doneMark : ℕ → ℕ

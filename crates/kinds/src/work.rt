@@ -11,6 +11,7 @@ use eigen::eigen2x2::Eigen2;
 use eigen::eigen3x3::Eigen3;
 use eigen::eigen3x3::eigen_jacobi;
 use float::width::Real;
+use jacobi::blind::mark_byte;
 use matrix::codes::DONE;
 use matrix::codes::UNKNOWN_KIND;
 use matrix::square::Mat2;
@@ -25,7 +26,7 @@ ghost use Rattle.matrix.specs.Square.{mat2, mat3};
 ghost use Rattle.matrix.specs.Symmetric.{sym2, sym3};
 ghost use Rattle.cholesky.specs.Factor.{ofFactor2, ofFactor3};
 ghost use Rattle.cholesky.specs.Solve.{ofSolved2, ofSolved3};
-ghost use Rattle.kinds.specs.Work.{firstOf, padded, markOf, doneMark, refusedKind, fromEigen2, fromEigen3, fromSvd2, fromSvd3, wholeFactor, fromFactor};
+ghost use Rattle.kinds.specs.Work.{firstOf, padded, doneMark, refusedKind, fromEigen2, fromEigen3, fromSvd2, fromSvd3, wholeFactor, fromFactor};
 ghost use Rattle.kinds.specs.Work.{fromSolved, answeredBy, workOf};
 
 // What a request asks: its kind, its way, and its numbers.
@@ -44,12 +45,6 @@ pub struct Worked {
     pub values: [Real; 3],
     pub left: [Real; 9],
     pub right: [Real; 9],
-}
-
-fn mark(settled: bool) -> u8
-    ensures { λ r. ⌜ r ≡ markOf settled ⌝ }
-{
-    if settled { 1 } else { 0 }
 }
 
 fn done_mark(code: u8) -> u8
@@ -96,7 +91,7 @@ fn from_eigen2(r: Eigen2) -> Worked
     Worked {
         code: r.code,
         count: 0,
-        settled: mark(r.settled),
+        settled: mark_byte(r.settled),
         values: [v[0], v[1], 0.0],
         left,
         right: [0.0; 9],
@@ -113,7 +108,7 @@ fn from_eigen3(e: Eigen3) -> Worked
     Worked {
         code: e.code,
         count: made.count,
-        settled: mark(e.settled),
+        settled: mark_byte(e.settled),
         values: [v[0], v[1], v[2]],
         left,
         right: [0.0; 9],
@@ -131,7 +126,7 @@ fn from_svd2(r: Svd2) -> Worked
     Worked {
         code: r.code,
         count: 0,
-        settled: mark(r.settled),
+        settled: mark_byte(r.settled),
         values: [s[0], s[1], 0.0],
         left,
         right,
@@ -150,7 +145,7 @@ fn from_svd3(r: Svd3) -> Worked
     Worked {
         code: r.code,
         count: made.count,
-        settled: mark(r.settled),
+        settled: mark_byte(r.settled),
         values: [s[0], s[1], s[2]],
         left,
         right,

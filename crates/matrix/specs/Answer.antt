@@ -89,6 +89,10 @@ putOf n a y = pick (leb n (length y)) (record { code = a .code; value = pick (eq
 abbrev pub onFirst : ℕ → (List Float → Answer (List Float)) → List Float → List Float → Answer (List Float)
 onFirst n call x y = pick (leb n (length y)) (pick (leb n (length x)) (putOf n (call (take n x)) y) (refused 1 y)) (refused 2 y)
 
--- what a call on a lent slice promises: the code, and the slice's content at exit
-abbrev pub Outcome : Answer (List Float) → ℕ → List Float → Type 0
+-- what is lent takes the value where the code is 0
+abbrev pub whenDone : {A : Type 0} → Answer A → A → Answer A
+whenDone r found = record { code = r .code; value = pick (eqb (r .code) 0) (r .value) found }
+
+-- what a call on something lent promises: the code, and what is there at exit
+abbrev pub Outcome : {A : Type 0} → Answer A → ℕ → A → Type 0
 Outcome a code left = (code ≡ a .code) × (left ≡ a .value)

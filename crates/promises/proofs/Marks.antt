@@ -12,8 +12,9 @@ use Rattle.svd.specs.Svd3x3.{svdOf}
 use Rattle.svd.proofs.Counted as svd
 use Rattle.svd.proofs.Settled as svdMark
 use Rattle.cholesky.specs.Factor.{FactorAnswer}
+use Rattle.jacobi.specs.Blind.{markOf}
 use Rattle.kinds.specs.Table.{kindNumbered}
-use Rattle.kinds.specs.Work.{firstOf, markOf, doneMark, refusedKind, fromFactor, usedFinite, answeredBy, workOf}
+use Rattle.kinds.specs.Work.{firstOf, doneMark, refusedKind, fromFactor, usedFinite, answeredBy, workOf}
 use Rattle.kinds.specs.declared.table.Kind.{Kind}
 use Rattle.kinds.specs.declared.work.Asked.{Asked}
 use Rattle.kinds.specs.declared.work.Worked.{Worked}

@@ -3,6 +3,7 @@ use Rattle.float.proofs.Words.{_≡_, refl, sym, ap, _∙_, subst, List, inl, i
 use contract.Lifetimes.{Lfts}
 use Rattle.float.specs.Width.{F}
 use Rattle.matrix.specs.Places.{negatedOf}
+use Rattle.jacobi.specs.Blind.{markOf}
 use Rattle.jacobi.specs.declared.made.Made.{Made}
 use Rattle.eigen.specs.Eigen2x2.{eigen2Of}
 use Rattle.eigen.specs.Eigen3x3.{eigenOf}
@@ -14,7 +15,7 @@ use Rattle.eigen.specs.declared.eigen3x3.Eigen3.{Eigen3}
 use Rattle.svd.specs.Svd2x2.{svd2Of}
 use Rattle.svd.specs.Reversed2x2 as svd2
 use Rattle.svd.proofs.Reversed2x2 as svd2x2
-use Rattle.kinds.specs.Work.{firstOf, markOf, fromEigen3, refusedKind, answeredBy, workOf}
+use Rattle.kinds.specs.Work.{firstOf, fromEigen3, refusedKind, answeredBy, workOf}
 use Rattle.kinds.specs.declared.work.Worked.{Worked}
 use Rattle.wire.specs.Bytes.{part}
 use Rattle.record.specs.Layout.{eventBytes, requestSize, codeAt, answerSize}

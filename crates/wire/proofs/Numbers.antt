@@ -6,7 +6,7 @@ use lib.Ieee.Bits.{ofBits-toBits, toBits-lt, toBits-ofBits}
 use Rattle.float.specs.Constants.{zeroF}
 use Rattle.matrix.specs.Places.{zeros}
 use Rattle.wire.specs.Bytes.{numberBytes, placeOf, wordOf, bytesOf, numberBytesOf, placedOf}
-use Rattle.wire.proofs.Parts.{sets-append, placed-front}
+use Rattle.wire.proofs.Parts.{sets-append, placed-front, placed-behind}
 use Rattle.wire.proofs.Words.{bytes-length, word-of-bytes, word-below, bytes-of-word}
 
 abbrev pub wordBytes : Format → Float → List ℕ
@@ -56,9 +56,15 @@ numbers-take f (x ∷ xs) r (suc k) h =
 pub numbers-front : (f : Format) (l l′ : List ℕ) (xs : List Float) (at n : ℕ) → length xs ≡ n → placeOf f at n ≤ length l
     → l′ ≡ placedOf at (numberBytesOf f xs) l
     → take (placeOf f at n) l′ ≡ take at l ++ numberBytesOf f xs
-numbers-front f l l′ xs at n e h p =
-    let room : at + length (numberBytesOf f xs) ≤ length l = rw (numbers-length f xs, e) h in
-    rw (p, ← e, ← numbers-length f xs) (placed-front at (numberBytesOf f xs) l room)
+numbers-front f l l′ xs at n e h p = rw p (placed-front at (numberBytes f * n) (numberBytesOf f xs) l (rw (numbers-length f xs, e)) h)
+
+-- k numbers placed behind the n bytes x: m bytes in all
+pub numbers-behind : (f : Format) (l l′ l″ x : List ℕ) (xs : List Float) (at n k m : ℕ) → length x ≡ n → length xs ≡ k → m ≡ placeOf f n k
+    → at + m ≤ length l → l′ ≡ placedOf at x l → l″ ≡ placedOf (at + n) (numberBytesOf f xs) l′
+    → (length (x ++ numberBytesOf f xs) ≡ m) × (l″ ≡ placedOf at (x ++ numberBytesOf f xs) l)
+numbers-behind f l l′ l″ x xs at n k m a b e h p q =
+    let size : length (numberBytesOf f xs) ≡ numberBytes f * k = rw (numbers-length f xs, b) in
+    (rw length-append (omega arith), placed-behind l l′ l″ x (numberBytesOf f xs) at (at + n) (omega arith) (omega arith) p q)
 
 -- ---- zeros
 

@@ -1,9 +1,9 @@
 -- Each round answers one request more, and what lies behind the answers stays.
-use Rattle.float.proofs.Words.{_≡_, refl, sym, _∙_, _-_, _*_, _≤_, arith, length, take, drop, take-append-drop, needs}
+use Rattle.float.proofs.Words.{_≡_, refl, sym, _∙_, ℕ, _-_, _*_, _≤_, arith, length, take, drop, take-append-drop, needs}
 use Rattle.float.specs.Width.{F}
+use Rattle.wire.proofs.Parts.{front-more, rest-more}
 use Rattle.record.specs.Layout.{answerSize}
 use Rattle.record.specs.Stream.{answersOf, streamOf}
-use Rattle.record.proofs.Streams.{answer-more, rest-more}
 use Rattle.record.proofs.stream.answer_all.Statement.{statement}
 use Rattle.record.proofs.stream.answer_all.Tie as tie
 
@@ -18,12 +18,14 @@ abbrev μ-loop : tie.MeasureT-loop
 μ-loop requests answers₀ n i₀ answers i = n - i
 
 loop-again : tie.Need-loop-again Inv-loop μ-loop
+unfolding answersOf
 loop-again c =
     let l = c .before .before .before .before .before .loop in
     let a = c .before .before .before .before .before .before .before .before .before .args in (
       omega arith,
       omega arith,
-      answer-more F (c .before .before .answer-one .last .1 .0) (l .answers) (a .requests .now) (l .i) (c .before .before .answer-one .ensures .0) (l .inv .2),
+      front-more (λ (k : ℕ). answersOf F k (a .requests .now)) (c .before .before .answer-one .last .1 .0) (l .answers) _ (answerSize F) (l .i)
+          (c .before .before .answer-one .ensures .0) (l .inv .2) refl,
       rest-more (c .before .before .answer-one .last .1 .0) (l .answers) (a .answers .now) (answerSize F) (l .i)
           (c .before .before .answer-one .ensures .1) (l .inv .3),
     )
