@@ -30,5 +30,11 @@ pub const OUTSIDE: u8 = 8;
 // A pivot is NaN.
 pub const NAN_PIVOT: u8 = 9;
 
+// Rows of unequal length.
+pub const ROWS_UNEQUAL: u8 = 10;
+
+// A row of more than 64 places.
+pub const ROW_TOO_LONG: u8 = 11;
+
 // A count passes 64 bits.
 pub const COUNT_TOO_LARGE: u8 = 14;

@@ -1,0 +1,9 @@
+pub mod Filling
+pub mod Values
+pub mod Lending
+pub mod Promise
+pub mod Codes
+pub mod Places
+pub mod Vouched
+pub mod BytesRow
+pub mod Unique
