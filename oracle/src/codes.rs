@@ -10,10 +10,12 @@ pub const PIVOT: u64 = 6;
 pub const ANSWER_NOT_FINITE: u64 = 7;
 pub const OUTSIDE: u64 = 8;
 pub const NAN_PIVOT: u64 = 9;
+pub const ROWS_UNEQUAL: u64 = 10;
+pub const ROW_TOO_LONG: u64 = 11;
 pub const COUNT_TOO_LARGE: u64 = 14;
 
-/// The codes that a record can have. 2, 8 and 14 are of calls alone: a program's answer has room, no kind names a row, and no record
-/// counts others.
+/// The codes that a record can have. 2, 8, 10, 11 and 14 are of calls alone: a program's answer has room, no kind names a row or a
+/// column, and no record has several matrices or counts others.
 pub const OF_RECORDS: [u64; 8] = [
     DONE,
     INPUT_LENGTH,

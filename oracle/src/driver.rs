@@ -7,7 +7,7 @@ use std::process::{Child, ChildStdin, ChildStdout, Command, Stdio};
 use std::thread;
 
 /// So many differences are shown.
-const SHOWN: u64 = 10;
+pub const SHOWN: u64 = 10;
 
 /// Prints the counts and says whether all is well: some input, no difference, and each branch hit.
 pub fn run(subject: &'static Subject, count: u64, seed: u64, probe: &[&str]) -> io::Result<bool> {

@@ -1,6 +1,7 @@
 //! Compares the proved build, behind the probe, with Rust and the crate's own modules, bit for bit, and answers records by them.
 
 mod algebra;
+mod cases;
 mod cholesky;
 mod codes;
 mod driver;
@@ -9,6 +10,7 @@ mod float;
 mod golden;
 mod heads;
 mod in_place;
+mod jobs;
 mod kinds;
 mod lent;
 mod listed;
@@ -25,6 +27,8 @@ mod record;
 mod requests;
 mod root;
 mod rotations;
+mod row;
+mod rows;
 mod search;
 mod shapes;
 mod stream;
@@ -47,6 +51,7 @@ fn main() -> ExitCode {
         ["operations", input, output] => Some(golden::write(input, output)),
         _ => with_records(&words)
             .or_else(|| with_tallies(&words))
+            .or_else(|| with_rows(&words))
             .or_else(|| with_subject(&words)),
     };
     match done {
@@ -77,6 +82,8 @@ fn usage() {
     eprintln!("       oracle tallies COUNT SEED PROGRAM-COMMAND...");
     eprintln!("       oracle golden-answers > ANSWERS");
     eprintln!("       oracle heads < ANSWERS");
+    eprintln!("       oracle rows COUNT SEED PROGRAM-COMMAND...");
+    eprintln!("       oracle golden-rows INPUT OUTPUT");
 }
 
 /// Prints the name of each subject, and says whether there are any.
@@ -110,6 +117,17 @@ fn with_tallies(words: &[&str]) -> Option<io::Result<bool>> {
         ["heads"] => met::show(&mut input),
         ["tallies", count, seed, program @ ..] if !program.is_empty() => {
             tallies::run(count.parse().ok()?, seed.parse().ok()?, program)
+        }
+        _ => return None,
+    })
+}
+
+/// The same of rows.
+fn with_rows(words: &[&str]) -> Option<io::Result<bool>> {
+    Some(match words {
+        ["golden-rows", input, output] => rows::write_golden(input, output),
+        ["rows", count, seed, program @ ..] if !program.is_empty() => {
+            rows::run(count.parse().ok()?, seed.parse().ok()?, program)
         }
         _ => return None,
     })
