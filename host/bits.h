@@ -10,6 +10,9 @@
 #define INFINITE 0x7FF0000000000000u
 /* the one NaN of root, signum and a factor that stops */
 #define THE_NAN 0x7FF8000000000000u
+/* a quiet NaN, one with sign and payload, and two signalling ones likewise */
+#define FOUR_NANS THE_NAN, 0xFFFC0000DEADBEEFu, 0x7FF0000000000001u, 0xFFF4000000C0FFEEu
+#define BOTH_INFINITIES INFINITE, SIGN | INFINITE
 
 static inline double double_of(uint64_t bits)
 {

@@ -1,17 +1,20 @@
 /* Holds what the header says of records against the library, where it is more than the proof sees: the
    header's own constants, bytes beside the two buffers, addresses of any alignment, and NaNs with a
-   payload. Every call is made from C and from C++. One line for each kind of call, with how many were
-   tried; the first that is wrong of a kind has a line of its own. Ends with 1 if any is. */
+   payload. Every call on records and rows is made from C and from C++. One line for each kind of call, with
+   how many were tried; the first that is wrong of a kind has a line of its own. Ends with 1 if any is. */
 #include <stddef.h>
 #include <stdint.h>
 #include <stdio.h>
 #include <string.h>
 
+#include "bits.h"
 #include "tried.h"
 #include "zanikory.h"
 
 uint8_t answer_record_from_cpp(const uint8_t *request, size_t request_length, uint8_t *answer,
                                size_t answer_length);
+uint8_t svd_3x3_row_from_cpp(const uint8_t *matrices, size_t matrices_length, uint8_t *answers,
+                             size_t answers_length);
 
 /* A buffer lies at GUARD or up to seven bytes behind it, and may have twice its right length. */
 enum { GUARD = 64, ROOM = GUARD + 2 * ZANIKORY_ANSWER_SIZE + GUARD };
@@ -168,14 +171,7 @@ static int example(void)
 }
 
 /* volatile: each is read when the program runs, so the compiler can work out nothing beforehand. */
-static const volatile uint64_t patterns[] = {
-    0x7FF8000000000000u, /* quiet NaN */
-    0xFFFC0000DEADBEEFu, /* quiet NaN, sign, payload */
-    0x7FF0000000000001u, /* signalling NaN */
-    0xFFF4000000C0FFEEu, /* signalling NaN, sign, payload */
-    0x7FF0000000000000u, /* +infinity */
-    0xFFF0000000000000u, /* -infinity */
-};
+static const volatile uint64_t patterns[] = {FOUR_NANS, BOTH_INFINITIES};
 
 /* Each pattern at each of the twelve places: 5 where the kind uses the number, and else 4. */
 static int not_finite(void)
@@ -288,7 +284,8 @@ static int marks(void)
     return end(&tried);
 }
 
-/* ---- the other library, so that the program has both: the factor over an old one, which is lent */
+/* ---- the other libraries, so that the program has all three: the factor over an old one, which is lent, and
+   the header's example of a row */
 
 struct factored {
     double matrix[3];
@@ -302,7 +299,7 @@ static const struct factored factored[] = {
     {{1, 1, 1}, ZANIKORY_CODE_PIVOT, 2, {1, 1, 9}},
 };
 
-static int both_libraries(void)
+static int factors(void)
 {
     struct tried tried = begin("factors 2x2 over 7, 8, 9, from the library on doubles");
     for (size_t i = 0; i < sizeof factored / sizeof factored[0]; i++) {
@@ -316,9 +313,29 @@ static int both_libraries(void)
     return end(&tried);
 }
 
+static int row_example(void)
+{
+    uint8_t (*const entries[])(const uint8_t *, size_t, uint8_t *, size_t) = {zanikory_svd_3x3_row,
+                                                                              svd_3x3_row_from_cpp};
+    static const double values[3] = {3, 2, 1};
+    struct tried tried = begin("a row of a matrix and a NaN, from the library on rows");
+    for (size_t i = 0; i < sizeof entries / sizeof entries[0]; i++) {
+        double matrices[2][9] = {{2, 0, 0, 0, 3, 0, 0, 0, 1}, {double_of(THE_NAN)}};
+        struct zanikory_svd_3x3_answer answers[2];
+        uint8_t code =
+            entries[i]((const uint8_t *)matrices, sizeof matrices, (uint8_t *)answers, sizeof answers);
+        tried.calls++;
+        tried.wrong += code != ZANIKORY_CODE_DONE || answers[0].code != ZANIKORY_CODE_DONE ||
+                       memcmp(answers[0].values, values, sizeof values) != 0 ||
+                       answers[1].code != ZANIKORY_CODE_INPUT_NOT_FINITE;
+    }
+    return end(&tried);
+}
+
 int main(void)
 {
-    int wrong = lengths() + example() + kind_bytes() + not_finite() + pivots() + marks() + both_libraries();
+    int wrong = lengths() + example() + kind_bytes() + not_finite() + pivots() + marks();
+    wrong += factors() + row_example();
     printf("%d wrong\n", wrong);
     return wrong != 0;
 }

@@ -20,12 +20,8 @@
 
 /* volatile: each is read when the program runs, so the compiler can work out nothing beforehand. */
 static const volatile uint64_t patterns[] = {
-    0x7FF8000000000000u, /* quiet NaN */
-    0xFFFC0000DEADBEEFu, /* quiet NaN, sign, payload */
-    0x7FF0000000000001u, /* signalling NaN */
-    0xFFF4000000C0FFEEu, /* signalling NaN, sign, payload */
-    0x7FF0000000000000u, /* +infinity */
-    0xFFF0000000000000u, /* -infinity */
+    FOUR_NANS,
+    BOTH_INFINITIES,
     0x8000000000000000u, /* -0 */
     0x0000000000000001u, /* the least subnormal */
     0x800FFFFFFFFFFFFFu, /* the largest subnormal, sign */

@@ -16,6 +16,7 @@
 #include <string.h>
 
 #include "bits.h"
+#include "random.h"
 #include "shown.h"
 
 /* The weight in a pattern of the exponent's field, which is that of a significand's leading digit. */
@@ -140,16 +141,13 @@ static void try_beside(struct group *group, uint64_t b, int first, int last)
         try(group, b + (uint64_t)i);
 }
 
-/* ---- random numbers, by SplitMix64 */
+/* ---- random numbers */
 
 static uint64_t state;
 
 static uint64_t any(void)
 {
-    uint64_t z = state += 0x9E3779B97F4A7C15u;
-    z = (z ^ z >> 30) * 0xBF58476D1CE4E5B9u;
-    z = (z ^ z >> 27) * 0x94D049BB133111EBu;
-    return z ^ z >> 31;
+    return random_word(&state);
 }
 
 static uint64_t any_below(uint64_t bound)

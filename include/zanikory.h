@@ -2,8 +2,9 @@
    has an answer.
 
    The entry on records is in target/staticlib/librecord.a, which `rt staticlib record` writes. Those on
-   doubles are in target/staticlib/libexports.a, which `rt staticlib exports` writes. One program may be
-   linked with both: no name is in both.
+   doubles are in target/staticlib/libexports.a, which `rt staticlib exports` writes. The one on rows is in
+   target/staticlib/librow.a, which `rt staticlib row` writes. One program may be linked with all of them:
+   no name is in two.
 
    All of them want the floating-point state that a program starts with: rounding to nearest, and
    subnormals kept. The bits flush-to-zero and denormals-are-zero are off, and stay off as long as nothing
@@ -22,8 +23,8 @@ extern "C" {
 
 /* What an entry answers. With more than one reason to refuse, the order is 2, 1, 3, 4, 5, then 6 or 9, then
    7. 6 and 9 never meet: a factor stops at the first pivot that has no root, since it is at most zero or
-   NaN. The worked matrix of a 3x3 call counts among the numbers of its answer, though no record has it. 14
-   is of tallies alone (zanikory_tally.h). */
+   NaN. The worked matrix of a 3x3 call counts among the numbers of its answer, though no record has it. 10
+   and 11 are of rows alone, and 10 comes before 11; 14 is of tallies alone (zanikory_tally.h). */
 enum zanikory_code {
     ZANIKORY_CODE_DONE = 0,              /* none of the others */
     ZANIKORY_CODE_INPUT_LENGTH = 1,      /* an input has a wrong length */
@@ -34,6 +35,8 @@ enum zanikory_code {
     ZANIKORY_CODE_PIVOT = 6,             /* a pivot is at most zero */
     ZANIKORY_CODE_ANSWER_NOT_FINITE = 7, /* a number of the answer is NaN or infinite */
     ZANIKORY_CODE_NAN_PIVOT = 9,         /* a pivot is NaN */
+    ZANIKORY_CODE_ROWS_UNEQUAL = 10,     /* rows of unequal length */
+    ZANIKORY_CODE_ROW_TOO_LONG = 11,     /* a row of more than 64 places */
     ZANIKORY_CODE_COUNT_TOO_LARGE = 14   /* a count would pass 64 bits */
 };
 
@@ -169,6 +172,46 @@ uint8_t zanikory_eigen_3x3(const double *a, size_t a_length, double *out, size_t
 /* Singular values of a square matrix of 9 numbers, into an out of 30: the 3 values, descending, and the
    9 numbers each of U, of V and of the worked matrix. What is refused leaves out. */
 uint8_t zanikory_svd_3x3(const double *a, size_t a_length, double *out, size_t out_length);
+
+/* ---- a whole string in one call
+
+   A row of up to 64 square matrices of 9 numbers, column by column, and as many answers. Answer i is that
+   of matrix i alone: a matrix that is refused touches no other place. */
+
+#define ZANIKORY_ROW_MOST 64
+
+struct zanikory_svd_3x3_answer {
+    uint8_t code;      /* of this matrix: 0, 5 or 7; with 5 and 7 all the rest is 0 */
+    uint8_t rotations; /* at most 25 */
+    uint8_t settled;   /* as byte 7 of a record */
+    uint8_t zero[5];
+    double values[3];             /* descending */
+    double u[9], v[9], worked[9]; /* column by column; the last is the matrix after the last rotation */
+};
+
+/* What a matrix and an answer take, in bytes. The numbers lie as x86-64 has them, so that these are the
+   sizes of double[9] and of the struct. */
+#define ZANIKORY_ROW_MATRIX_SIZE 72
+#define ZANIKORY_ROW_ANSWER_SIZE 248
+
+/* Answers a row of matrices, and gives a code. The lengths are in bytes, and not in doubles as above: sizeof
+   of the two arrays. The pointers need no alignment.
+     0     every answer is filled: one that is refused, with 5 or 7, has its code and zeros
+     10    the lengths are not those of equally many whole matrices and answers
+     11    there are more than 64
+   10 and 11 leave all answers as they were. An empty row gives 0.
+
+   The caller keeps that neither pointer is null, that each is valid for its length, 0 included, and that
+   the two do not overlap; nothing of that can be checked here. Nothing else is read or written, and no
+   memory is kept from one call to the next: threads may call it at the same time.
+
+       double matrices[2][9] = {{2, 0, 0, 0, 3, 0, 0, 0, 1}, {NAN}};
+       struct zanikory_svd_3x3_answer answers[2];
+       zanikory_svd_3x3_row((const uint8_t *)matrices, sizeof matrices, (uint8_t *)answers, sizeof answers);
+
+   Here it gives 0, the values of the first answer are 3, 2 and 1, and the code of the second is 5. */
+uint8_t zanikory_svd_3x3_row(const uint8_t *matrices, size_t matrices_length, uint8_t *answers,
+                             size_t answers_length);
 
 #ifdef __cplusplus
 }
