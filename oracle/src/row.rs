@@ -1,4 +1,4 @@
-//! The row call, from the words of the customers' request: lent rows of matrices and of answers, and each place holds what the single call
+//! The row call, from the words of the request: lent rows of matrices and of answers, and each place holds what the single call
 //! gives for its matrix. A job of the program that makes the call is a row of each, in bytes.
 
 use crate::codes::{DONE, ROWS_UNEQUAL, ROW_TOO_LONG};

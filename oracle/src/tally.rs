@@ -1,4 +1,4 @@
-//! The tally of an answer file, from the words of the customers' request: for each kind the number of each code, and of settled and
+//! The tally of an answer file, from the words of the request: for each kind the number of each code, and of settled and
 //! unsettled answers; for kinds 2 and 4 how many made so many rotations; the foreign records; and the bytes left over.
 
 use crate::codes::{COUNT_TOO_LARGE, DONE, OF_RECORDS};

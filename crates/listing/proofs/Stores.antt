@@ -19,13 +19,6 @@ front-put {out} {text} h p =
     let e : 0 + length text ≡ length text = omega arith in
     (p .behind ∙ e, p .stored ∙ (rw e at (sets-eq text out 0 (omega arith))))
 
--- one byte more of a text
-pub byte-more : (out bytes : List ℕ) (at i : ℕ) → i < length bytes
-    → sets (set out (at + i) (getD bytes i 0)) (at + (i + 1)) (drop (i + 1) bytes) ≡ sets out (at + i) (drop i bytes)
-byte-more out bytes at i h =
-    let e : at + (i + 1) ≡ suc (at + i) = omega arith in
-    rw (e, drop-cons bytes i 0 h, add-one)
-
 -- the last byte of a text, stored before the others
 past-byte : (out ds : List ℕ) (at j d : ℕ) → at + length ds ≤ j → sets (set out j d) at ds ≡ set (sets out at ds) j d
 past-byte out [] at j d h = refl

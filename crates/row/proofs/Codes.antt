@@ -1,10 +1,9 @@
 -- The codes of the row call, by its rows: the two tests of the definition decide the two conditions, in this order.
-use Rattle.float.proofs.Words.{_≡_, refl, sym, _∙_, not, List, [], _∷_, ℕ, _≤_, _<_, arith, eqb, leb, length, Format, eqb-true, eq-eqb, leb-true, not-true}
+use Rattle.float.proofs.Words.{_≡_, refl, not, List, [], _∷_, ℕ, _≤_, _<_, arith, eqb, leb, length, Format, eqb-true, eq-eqb, leb-true, not-true}
 use Rattle.float.proofs.Words.{not-false}
 use borrow.Author.Tests.{leb-false}
 use contract.Lifetimes.{Lfts}
 use Rattle.float.specs.Width.{F}
-use Rattle.float.proofs.Choice.{either, whether}
 use Rattle.matrix.specs.Rows.{on, Gives}
 use Rattle.matrix.proofs.Rows.{Decides, last-row, by-not, taken-row, passed-row}
 use Rattle.matrix.specs.declared.square.Mat3.{Mat3}
@@ -26,6 +25,10 @@ pub row-codes : (f : Format) (ms : List Mat3) (found : List Svd3) → Gives (len
 unfolding svdRowOf
 row-codes f ms found = length-codes (length ms) (length found)
 
+-- so of the code that a call gives
+pub row-codes-call : (κs : Lfts 2) (a : _) (r : ℕ) (s : _) → svd-row.Post κs a r s → Gives (lengthRows (length (a .0 .now)) (length (a .1 .0 .now))) r
+row-codes-call κs a r s p = rw (p .0) (row-codes F (a .0 .now) (a .1 .0 .now))
+
 -- ---- what a code tells, of any number that the rows give
 
 module _ (n m c : ℕ) (g : Gives (lengthRows n m) c) where
@@ -38,18 +41,3 @@ module _ (n m c : ℕ) (g : Gives (lengthRows n m) c) where
 
   pub zero-told : n ≡ m → n ≤ 64 → c ≡ 0
   zero-told e h = passed-row (passed-row g (λ k. k e)) (λ k. omega (arith, h, k))
-
--- ---- the same of rows
-
--- a row that is not refused has at most 64 places
-pub code-most : (f : Format) (ms : List Mat3) (found : List Svd3) → svdRowOf f ms found .code ≡ 0 → length ms ≤ 64
-code-most f ms found e = either 64 (length ms) (λ h. absurd (not-zero h)) (λ h. h)
-  where
-    not-zero : 64 < length ms → ⊥
-    not-zero h = whether (length ms) (length found)
-        (λ q. omega (arith, sym (eleven-told (length ms) (length found) _ (row-codes f ms found) q h) ∙ e))
-        (λ q. omega (arith, sym (ten-told (length ms) (length found) _ (row-codes f ms found) q) ∙ e))
-
--- so of the code that a call gives
-pub row-codes-call : (κs : Lfts 2) (a : _) (r : ℕ) (s : _) → svd-row.Post κs a r s → Gives (lengthRows (length (a .0 .now)) (length (a .1 .0 .now))) r
-row-codes-call κs a r s p = rw (p .0) (row-codes F (a .0 .now) (a .1 .0 .now))

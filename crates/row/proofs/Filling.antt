@@ -1,12 +1,12 @@
 -- A row that is filled from the front: the first i places hold what a function gives for the matrices there, and the others what was found. Laws over any
 -- function, and what they make of the gate's number of places.
 use Rattle.float.proofs.Words.{_≡_, refl, sym, ap, _∙_, List, [], _∷_, _++_, append-nil, map, ℕ, zero, suc, _≤_, _<_, min, arith, eqb, length, getD, set}
-use Rattle.float.proofs.Words.{take, drop, length-append, length-take, length-drop, take-all, drop-length, le-refl, eqb-true, Format}
+use Rattle.float.proofs.Words.{take, drop, length-append, length-take, length-drop, take-all, drop-length, le-refl, leb, leb-true, eqb-true, Format}
 use lib.ListN.{length-map, drop-of-length-le as drop-all}
-use Rattle.float.proofs.Choice.{by-eqb, both-chosen, either}
+use Rattle.float.proofs.Choice.{by-test, by-eqb, both-chosen, either}
 use Rattle.matrix.specs.declared.square.Mat3.{Mat3}
 use Rattle.svd.specs.declared.svd3x3.Svd3.{Svd3}
-use Rattle.row.specs.Row.{rowCodeOf, singleOf, gateOf, svdRowOf}
+use Rattle.row.specs.Row.{mostPlaces, rowCodeOf, singleOf, gateOf, svdRowOf}
 
 module _ {A B : Type 0} (g : A → B) where
   abbrev pub filledTo : ℕ → List A → List B → List B
@@ -29,16 +29,20 @@ module _ {A B : Type 0} (g : A → B) where
 
 -- ---- the gate: the row is filled as a whole, or not at all
 
--- a row is refused, or has as many matrices as answers
-pub code-equal : (n m : ℕ) → rowCodeOf n m ≡ 0 → n ≡ m
+-- a row that is not refused has as many answers as matrices, and not too many
+pub code-zero : (n m : ℕ) → rowCodeOf n m ≡ 0 → (n ≡ m) × (n ≤ mostPlaces)
 unfolding rowCodeOf
-code-equal n m = by-eqb (λ (k : ℕ). k ≡ 0 → n ≡ m) n m _ _ (λ e _. e) (λ _ k. absurd (omega (arith, k)))
+code-zero n m =
+    let Zero : ℕ → Type 0 = λ (k : ℕ). k ≡ 0 → (n ≡ m) × (n ≤ mostPlaces) in
+    by-eqb Zero n m _ 10
+    (λ e. by-test Zero (leb n mostPlaces) 0 11 (λ t _. (e, leb-true n mostPlaces t)) (λ _ k. absurd (omega (arith, k))))
+    (λ _ k. absurd (omega (arith, k)))
 
 -- the places to fill are there
 pub stop-within : (n m : ℕ) → (gateOf n m .stop ≤ n) × (gateOf n m .stop ≤ m)
 unfolding gateOf
 stop-within n m =
-    by-eqb (λ (k : ℕ). (k ≤ n) × (k ≤ m)) (rowCodeOf n m) 0 n 0 (λ e. (le-refl n, rw (code-equal n m e) (le-refl m))) (λ _. (omega arith, omega arith))
+    by-eqb (λ (k : ℕ). (k ≤ n) × (k ≤ m)) (rowCodeOf n m) 0 n 0 (λ e. (le-refl n, rw (code-zero n m e .0) (le-refl m))) (λ _. (omega arith, omega arith))
 
 -- once they are filled, the row is that of the definition
 pub filled-row : (f : Format) (ms : List Mat3) (found : List Svd3)
@@ -46,7 +50,7 @@ pub filled-row : (f : Format) (ms : List Mat3) (found : List Svd3)
 unfolding gateOf svdRowOf
 filled-row f ms found =
     both-chosen (λ (k : ℕ) (l : List Svd3). filledTo (singleOf f) k ms found ≡ l) (eqb (rowCodeOf (length ms) (length found)) 0) (length ms) 0 _ found
-    (λ t. filled-all (singleOf f) ms found (code-equal (length ms) (length found) (eqb-true _ 0 t)))
+    (λ t. filled-all (singleOf f) ms found (code-zero (length ms) (length found) (eqb-true _ 0 t) .0))
     (λ _. refl)
 
 -- ---- the front of a row, where more may be asked for than there is

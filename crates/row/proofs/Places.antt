@@ -10,8 +10,9 @@ use Rattle.float.proofs.Choice.{whether}
 use Rattle.matrix.specs.Answer.{done}
 use Rattle.matrix.specs.declared.square.Mat3.{Mat3}
 use Rattle.svd.specs.declared.svd3x3.Svd3.{Svd3}
-use Rattle.row.specs.Row.{rowCodeOf, singleOf, svdRowOf}
-use Rattle.row.proofs.Codes.{row-codes, code-most, zero-told}
+use Rattle.row.specs.Row.{mostPlaces, rowCodeOf, singleOf, svdRowOf}
+use Rattle.row.proofs.Filling.{code-zero}
+use Rattle.row.proofs.Codes.{row-codes, zero-told}
 use Rattle.row.proofs.Promise as svd-row
 
 module _ (f : Format) where
@@ -62,8 +63,9 @@ module _ (f : Format) where
       → svdRowOf f (ms ++ ns) (found ++ others) .code ≡ 0
       → (svdRowOf f ms found .code ≡ 0) × (svdRowOf f ns others .code ≡ 0)
       × (svdRowOf f (ms ++ ns) (found ++ others) .value ≡ svdRowOf f ms found .value ++ svdRowOf f ns others .value)
+  unfolding svdRowOf
   row-split ms ns found others h k e =
-      let n : length ms + length ns ≤ 64 = rw (← length-append ms ns) (code-most f (ms ++ ns) (found ++ others) e) in
+      let n : length ms + length ns ≤ mostPlaces = rw (← length-append ms ns) (code-zero (length (ms ++ ns)) (length (found ++ others)) e .1) in
       let a = zero-told (length ms) (length found) _ (row-codes f ms found) h (omega arith) in
       let b = zero-told (length ns) (length others) _ (row-codes f ns others) k (omega arith) in
       (a, b, rw (row-done (ms ++ ns) (found ++ others) e, row-done ms found a, row-done ns others b, map-append))

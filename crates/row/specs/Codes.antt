@@ -7,7 +7,7 @@ use lib.Ieee.{Format}
 use Rattle.matrix.specs.Rows.{Row, on}
 use Rattle.row.specs.Bytes.{matSize, svdSize}
 
--- n matrices and m answers: not equally many, then more than 64, which is written out here
+-- n matrices and m answers: not equally many, then more than 64. The number is written out, so that `mostPlaces` is held to it.
 abbrev pub lengthRows : ℕ → ℕ → List Row
 lengthRows n m = on 10 (n ≡ m → ⊥) ∷ on 11 (64 < n) ∷ []
 

@@ -1,6 +1,6 @@
 -- The bytes that are stored, with the others stored behind them, stay the same in each round.
 use Rattle.float.proofs.Words.{_≡_, refl, ap, _∙_, ℕ, _+_, _-_, _≤_, add-zero, arith, length, drop, drop-length, length-set, sets, needs}
-use Rattle.listing.proofs.Stores.{byte-more}
+use Rattle.wire.proofs.Parts.{sets-more}
 use Rattle.listing.proofs.text.put_bytes.Statement.{statement}
 use Rattle.listing.proofs.text.put_bytes.Tie as tie
 
@@ -14,7 +14,7 @@ loop-again : tie.Need-loop-again Inv-loop μ-loop
 loop-again c =
     let l = c .before .before .loop in
     let a = c .before .before .before .args in
-    (omega arith, simp length-set (omega arith), byte-more (l .out) (a .bytes .now) (a .at) (l .i) (omega arith) ∙ l .inv .2)
+    (omega arith, simp length-set (omega arith), sets-more (l .out) (a .bytes .now) (a .at) (l .i) (omega arith) ∙ l .inv .2)
 
 returns : tie.Need-returns Inv-loop μ-loop
 returns c =
