@@ -9,14 +9,14 @@ use Rattle.float.proofs.Finite.{append-passes, parts-finite}
 use Rattle.float.proofs.Invalid.{nan-not-at-most}
 use Rattle.float.proofs.Judged.{stands, unjudged}
 use Rattle.float.proofs.Patterns.{only-nan}
-use Rattle.matrix.specs.Places.{at, zeros}
+use Rattle.matrix.specs.Places.{at, zeros, Fit}
 use Rattle.matrix.specs.declared.symmetric.Sym2.{Sym2}
 use Rattle.matrix.specs.declared.symmetric.Sym3.{Sym3}
 use Rattle.cholesky.specs.Factor.{FactorAnswer, factor3, steps2Of, factor2Of, steps3Of, factor3Of}
 use Rattle.cholesky.specs.Pivot.{pivotOf}
 use Rattle.cholesky.specs.Pivots.{secondOf, l32Of, thirdOf, pivots2Of, pivots3Of, oneAtMostZero, oneNan, refusedPivot, pivotCode}
 use Rattle.cholesky.specs.Solve.{solution2Of, factorAndSolve2Of, solution3Of, factorAndSolve3Of}
-use Rattle.cholesky.specs.NanPivot.{Fit, NanThird, beforeThird}
+use Rattle.cholesky.specs.NanPivot.{NanThird, beforeThird}
 use Rattle.cholesky.specs.declared.cholesky2x2.Factor2.{Factor2}
 use Rattle.cholesky.specs.declared.cholesky3x3.Factor3.{Factor3}
 use Rattle.cholesky.proofs.cholesky2x2.cholesky_2x2_explicit_factor.Reads as factor2-call

@@ -15,11 +15,11 @@ use Rattle.float.proofs.Invalid.{nan-square, nan-taken-off, square-unsigned, sq
 use Rattle.float.proofs.Invalid.{minus-infinity-low, below-infinity-number, above-zero, root-positive, positive-is-finite, finite-below, quotient-nan}
 use Rattle.float.proofs.Invalid.{difference-nan, product-nan, number-finite, nan-not-at-most, one-of-three}
 use Rattle.float.proofs.Under.{finite-no-nan}
-use Rattle.matrix.specs.Places.{at}
+use Rattle.matrix.specs.Places.{at, Fit}
 use Rattle.cholesky.specs.Factor.{steps2Of, steps3Of}
 use Rattle.cholesky.specs.Pivot.{pivotOf}
 use Rattle.cholesky.specs.Pivots.{l11Of, l21Of, secondOf, l22Of, l31Of, l32Of, thirdOf, pivots2Of, pivots3Of, one, oneAtMostZero, oneNan}
-use Rattle.cholesky.specs.NanPivot.{Fit, NanThird}
+use Rattle.cholesky.specs.NanPivot.{NanThird}
 
 -- ---- a square taken off x, which is below +infinity
 

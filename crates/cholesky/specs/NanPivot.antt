@@ -2,17 +2,11 @@
 use mathlib.Core.Path.{_≡_}
 use mathlib.Core.Bool.{true}
 use mathlib.Core.List.{List, [], _∷_}
-use Prim.Native.Nat.{ℕ, _<_}
-use lib.Dec.{T}
-use lib.Ieee.{Float, nan, Format, eq, lt, fits}
+use lib.Ieee.{Float, nan, Format, eq, lt}
 use Rattle.float.specs.Constants.{zeroF}
 use Rattle.float.specs.Sign.{infinite}
 use Rattle.matrix.specs.Places.{at}
 use Rattle.cholesky.specs.Pivots.{l11Of, l21Of, secondOf, l22Of, l31Of}
-
--- the first n numbers are values of the format, as every number of the code is
-abbrev pub Fit : Format → ℕ → List Float → Type 0
-Fit f n a = (i : ℕ) → i < n → T (fits f (at a i))
 
 -- ---- a third pivot that is NaN
 

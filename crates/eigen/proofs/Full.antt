@@ -23,7 +23,7 @@ Filled s = (length (s .matrix) ≡ 6) × (length (s .vectors) ≡ 9)
 
 pub last-filled : (f : Format) (a : List Float) → length a ≡ 6 → Filled (lastOf f a)
 unfolding runOf stepOf nextMatrix nextVectors
-last-filled f a n = run-keeps (stepOf f) (λ (s : State). settledOf f (s .matrix)) Filled (λ s. (refl, refl)) 25 (startOf f a) (n, refl)
+last-filled f a n = run-keeps (stepOf f) (λ (s : State). settledOf f (s .matrix)) Filled (λ s _. (refl, refl)) 25 (startOf f a) (n, refl)
 
 pub watched-filled : (f : Format) (a : List Float) → length a ≡ 6 → Filled (watchedLastOf f a .state)
 watched-filled f a n = rw (watched-ends f a) (last-filled f a n)

@@ -13,3 +13,4 @@ pub mod Reversed
 pub mod Reversed2x2
 pub mod Ordered
 pub mod Unique
+pub mod Fits

@@ -3,19 +3,32 @@
 use Rattle.float.proofs.Words.{_≡_, refl, sym, _∙_, subst, Bool, true, false, _||_, Bool·beq, true≢false, false≢true, ℕ, zero, suc, _*_, _≤_, _<_}
 use Rattle.float.proofs.Words.{zero-mul, mul-pos, zero-lt-suc, le-refl, lt-irrefl, lt-of-lt-of-le, arith, T, ltb, eqb, eqb→eq, ltb→lt, lt→ltb, lit<, ℤ}
 use Rattle.float.proofs.Words.{pos, negsuc, Float, nan, inf, fin, Format, binary32, binary64, up, down, mul, lt, eq, le, level, ofBits, ltb-false}
-use Rattle.float.proofs.Words.{lt-ltb}
+use Rattle.float.proofs.Words.{lt-ltb, fits}
+use lib.Ieee.Bits.{ofBits-fits}
 use lib.Ieee.Fits.{up-pos, down-pos, and-l}
 use lib.Ieee.Positive.{positive, above, above-of-le, mul-mono, cross→le, first-pos}
 use Rattle.float.specs.Constants.{zeroF, epsilonF}
 use Rattle.float.specs.Sign.{magnitudeOf, signBitOf, finite}
 use Rattle.float.proofs.Keys.{le-key, keyed}
 
--- ---- a finite number without a sign is at least zero
+-- ---- zero fits, and a finite number without a sign is at least zero
 
 pub zero-is : (f : Format) → zeroF f ≡ fin false 0 (pos 0)
 unfolding ofBits
 zero-is binary32 = refl
 zero-is binary64 = refl
+
+pub zero-fits : (f : Format) → T (fits f (zeroF f))
+zero-fits binary32 = ofBits-fits binary32 0
+zero-fits binary64 = ofBits-fits binary64 0
+
+-- the sign changes nothing of that
+pub magnitude-fits : (f : Format) (x : Float) → T (fits f x) → T (fits f (magnitudeOf x))
+unfolding magnitudeOf fits
+magnitude-fits f nan t = tt
+magnitude-fits f (inf s) t = tt
+magnitude-fits f (fin s zero e) t = t
+magnitude-fits f (fin s (suc m) e) t = t
 
 pub zero-least : (f : Format) (x : Float) → finite x ≡ true → signBitOf x ≡ false → le (zeroF f) x ≡ true
 unfolding finite signBitOf

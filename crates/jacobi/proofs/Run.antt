@@ -95,11 +95,11 @@ module _ {S : Type 0} (step : S → S) (done : S → Bool) where
 
 -- ---- what each step keeps, the run keeps
 
-module _ {S : Type 0} (step : S → S) (done : S → Bool) (P : S → Type 0) (kept : (s : S) → P (step s)) where
+module _ {S : Type 0} (step : S → S) (done : S → Bool) (P : S → Type 0) (kept : (s : S) → P s → P (step s)) where
   after-keeps : (n : ℕ) (s : S) → P s → P (after step done n s)
   unfolding after
   after-keeps zero s p = p
-  after-keeps (suc n) s p = after-keeps n (step s) (kept s)
+  after-keeps (suc n) s p = after-keeps n (step s) (kept s p)
 
   pub run-keeps : (k : ℕ) (s : S) → P s → P (run step done k s)
   run-keeps k s p = let r = ran step done k s in subst⁻¹ P (r .1 .stands) (after-keeps (r .0) s p)

@@ -1,9 +1,11 @@
 -- A list of n numbers is the table of what stands at its places: by induction on n.
 use Rattle.float.proofs.Words.{[], _≡_, refl, sym, ap, _∙_, true, List, _∷_, _++_, ℕ, zero, suc, _≤_, _<_, zero-add, le-of-suc-le-suc, arith, length, take}
+use Rattle.float.proofs.Words.{map}
 use Rattle.float.proofs.Words.{drop, take-all, sets, sets-eq, Float, Format, neg}
 use Rattle.float.specs.Sign.{finite, allFinite}
 use Rattle.float.proofs.Finite.{finite-neg, zero-finite}
-use Rattle.matrix.specs.Places.{zeros, at, tabulate, negatedOf}
+use Rattle.float.proofs.Zeros.{zero-fits}
+use Rattle.matrix.specs.Places.{zeros, at, tabulate, negatedOf, Fit}
 
 pub length-tabulate : (n : ℕ) (g : ℕ → Float) → length (tabulate n g) ≡ n
 length-tabulate zero g = refl
@@ -41,6 +43,10 @@ take-tabulate (suc n) (suc m) g h = ap (λ (l : List Float). g 0 ∷ l) (take-ta
 pub first-tabulate : (n m : ℕ) (g : ℕ → Float) → n ≤ m → tabulate n (at (tabulate m g)) ≡ tabulate n g
 first-tabulate n m g h = tabulate-take n (tabulate m g) (rw (length-tabulate m g) h) ∙ take-tabulate n m g h
 
+pub map-tabulate : (n : ℕ) (g : Float → Float) (h : ℕ → Float) → tabulate n (λ (i : ℕ). g (h i)) ≡ map g (tabulate n h)
+map-tabulate zero g h = refl
+map-tabulate (suc n) g h = ap (λ (l : List Float). g (h 0) ∷ l) (map-tabulate n g (λ (i : ℕ). h (suc i)))
+
 -- ---- finite numbers
 
 pub table-finite : (n : ℕ) (g : ℕ → Float) → ((i : ℕ) → i < n → finite (g i) ≡ true) → allFinite (tabulate n g) ≡ true
@@ -62,3 +68,10 @@ pub zeros-finite : (f : Format) (n : ℕ) → allFinite (zeros f n) ≡ true
 unfolding allFinite
 zeros-finite f zero = refl
 zeros-finite f (suc n) = rw (zero-finite f, zeros-finite f n)
+
+-- ---- values of the format
+
+pub zeros-fit : (f : Format) (n : ℕ) → Fit f n (zeros f n)
+zeros-fit f zero i l = absurd (omega arith)
+zeros-fit f (suc n) zero l = zero-fits f
+zeros-fit f (suc n) (suc i) l = zeros-fit f n i (omega arith)

@@ -1,9 +1,9 @@
 -- Where the numbers of a matrix of size n stand in its list. Definitions only.
 use mathlib.Core.List.{List, [], _∷_}
-use Prim.Native.Nat.{ℕ, zero, suc, _+_, _*_, _/_}
-use lib.Dec.{ltb}
+use Prim.Native.Nat.{ℕ, zero, suc, _+_, _*_, _/_, _<_}
+use lib.Dec.{T, ltb}
 use lib.ListN.{getD, replicate}
-use lib.Ieee.{Float, nan, Format, neg}
+use lib.Ieee.{Float, nan, Format, neg, fits}
 use Rattle.float.specs.Choice.{pick}
 use Rattle.float.specs.Constants.{zeroF}
 
@@ -21,6 +21,10 @@ negatedOf n xs = tabulate n (λ (i : ℕ). neg (at xs i))
 
 abbrev pub zeros : Format → ℕ → List Float
 zeros f n = replicate n (zeroF f)
+
+-- the first n numbers are values of the format, as every number of the code is
+abbrev pub Fit : Format → ℕ → List Float → Type 0
+Fit f n xs = (i : ℕ) → i < n → T (fits f (at xs i))
 
 -- ---- the place of (r, c)
 

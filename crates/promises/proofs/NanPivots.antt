@@ -10,11 +10,11 @@ use Rattle.float.specs.Exactly.{Exactly}
 use Rattle.float.specs.Sign.{allFinite}
 use Rattle.float.proofs.Choice.{chosen, by-test, so-or-not, by-eqb, whether}
 use Rattle.float.proofs.Finite.{append-passes, parts-finite}
-use Rattle.matrix.specs.Places.{at, zeros}
+use Rattle.matrix.specs.Places.{at, zeros, Fit}
 use Rattle.matrix.proofs.Rows.{by-finite}
 use Rattle.matrix.proofs.Tables.{at-tabulate}
 use Rattle.cholesky.specs.Pivots.{pivots3Of, one, oneAtMostZero, oneNan, refusedPivot}
-use Rattle.cholesky.specs.NanPivot.{Fit, NanThird}
+use Rattle.cholesky.specs.NanPivot.{NanThird}
 use Rattle.cholesky.proofs.Rows.{none-passes}
 use Rattle.cholesky.proofs.NanPivots.{no-nan2, whole2-finite, whole3-finite, third-met, third-is-nan}
 use Rattle.cholesky.proofs.NanCodes.{nine-tests, not-nine, third-refused}

@@ -12,3 +12,4 @@ pub mod Rows
 pub mod Settled
 pub mod Reversed2x2
 pub mod Unique
+pub mod Fits

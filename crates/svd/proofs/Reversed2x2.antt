@@ -166,6 +166,20 @@ reversed2 f a n =
     (negated-finite 4 a n) (numbers-alike r q h)
     (λ _. record { codes = refl; marks = cc (h .blind) }) (λ k l. record { codes = refl; marks = refl })
 
+-- and the values are the same bits, refused or not
+pub same-values2 : (f : Format) (a : List Float) → length a ≡ 4 → svd2Of f a .values ≡ svd2Of f (negatedOf 4 a) .values
+unfolding svd2Of end2Of
+same-values2 f a n =
+    let b = negatedOf 4 a in
+    let r = sides2Of f a in
+    let q = sides2Of f b in
+    let x = factors2Of r in
+    let y = factors2Of q in
+    let h = sides-alike f a in
+    both-called (λ (r q : Svd2). r .values ≡ q .values) (refusedSvd2 f) a b (numbers2Of x) (numbers2Of y) (answer2Of (blindSides f r) x)
+    (answer2Of (blindSides f q) y) (negated-finite 4 a n) (numbers-alike r q h)
+    (λ _. ap (λ (w : Ranked (List Float)). w .values) (right-same h)) (λ k l. refl)
+
 -- ---- the call: any answers within the promise that the source states
 
 -- A matrix of the source holds four numbers. Here its numbers are a list, so their count is a premise.

@@ -26,7 +26,7 @@ step-full f s = record { matrix = refl; u = refl; v = refl }
 pub last-full : (f : Format) (a : List Float) → length a ≡ 9 → FullState (lastOf f a)
 unfolding runOf
 last-full f a n =
-    run-keeps (stepOf f) (λ (s : State). settledOf f (s .matrix)) FullState (step-full f) 25 (startOf f a) (record { matrix = n; u = refl; v = refl })
+    run-keeps (stepOf f) (λ (s : State). settledOf f (s .matrix)) FullState (λ s _. step-full f s) 25 (startOf f a) (record { matrix = n; u = refl; v = refl })
 
 -- ---- the factors, n values and two matrices of size n
 

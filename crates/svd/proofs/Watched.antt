@@ -10,7 +10,7 @@ module _ (f : Format) (a : List Float) where
   abbrev pub endedOf : Watched State
   endedOf = record { state = lastOf f a; blind = watchedLastOf f a .blind }
 
-  watched-ends : watchedLastOf f a ≡ endedOf
+  pub watched-ends : watchedLastOf f a ≡ endedOf
   unfolding watchedOf runOf
   watched-ends = watched-apart (stepOf f) (λ (s : State). settledOf f (s .matrix)) (λ (s : State). blindAt f (s .matrix)) 25 (sighted (startOf f a))
 
