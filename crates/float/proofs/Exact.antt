@@ -1,10 +1,11 @@
 -- A value of the format rounds to itself: it is a whole number of units with digits that the format has, and it is written in one way.
-use Rattle.float.proofs.Words.{_≡_, sym, ap, _∙_, true, false, true≢false, ℕ, zero, suc, _+_, _*_, _^_, _<_, mul-right-comm, eq-of-mul-eq-mul-right}
-use Rattle.float.proofs.Words.{lt-of-le-of-lt, le-of-eq, zero-mul, add-comm, pow-pos, T, ℤ, Float, nan, inf, fin, Format, emax, low, up, down, round}
-use Rattle.float.proofs.Words.{fits}
+use Rattle.float.proofs.Words.{_≡_, sym, ap, _∙_, Bool, true, false, true≢false, ℕ, zero, suc, _+_, _*_, _^_, _<_, mul-right-comm}
+use Rattle.float.proofs.Words.{eq-of-mul-eq-mul-right, lt-of-le-of-lt, le-of-eq, zero-mul, add-comm, pow-pos, T, ℤ, Float, nan, inf, fin, Format, emax}
+use Rattle.float.proofs.Words.{low, up, down, round, fits, neg}
 use lib.Ieee.Exact.{HasValue, round-exact}
-use lib.Ieee.Fits.{down-pos, round-fits}
+use lib.Ieee.Fits.{down-pos, neg-fits, round-fits}
 use Rattle.float.specs.Nearest.{inUnits}
+use Rattle.float.proofs.Negation.{flip, round-flip}
 use Rattle.float.proofs.Units.{InUnits, in-units, units-lt, units-of, same-units}
 
 -- in units it is below the first power of two that the format does not hold
@@ -36,3 +37,9 @@ module _ (f : Format) (m : ℕ) (e : ℤ) (t : T (fits f (fin false m e))) where
 
   pub own-value : round f false (m * up e) (down e) ≡ fin false m e
   own-value = same-size (round f false (m * up e) (down e)) (round-fits f false (m * up e) (down e)) own-size
+
+-- of either sign
+pub own-rounded : (f : Format) (s : Bool) (m : ℕ) (e : ℤ) → T (fits f (fin s m e)) → round f s (m * up e) (down e) ≡ fin s m e
+own-rounded f false m e t = own-value f m e t
+own-rounded f true m e t =
+    sym (round-flip true f false (m * up e) (down e)) ∙ ap (flip true) (own-value f m e (unfold neg in neg-fits f (fin true m e) t))

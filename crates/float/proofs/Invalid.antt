@@ -96,7 +96,7 @@ at-most-below (fin t m e) y s a c h v = refl
 -- ---- each float is above zero, at most zero, or NaN
 
 -- of two finite numbers one is at most the other exactly where the other is not below it
-at-most : (x y : Float) → finite x ≡ true → finite y ≡ true → le x y ≡ not (lt y x)
+pub at-most : (x y : Float) → finite x ≡ true → finite y ≡ true → le x y ≡ not (lt y x)
 unfolding le
 at-most x y p q =
     let o = keyed x y y p q q in
@@ -253,7 +253,7 @@ difference-nan f (fin s m e) (inf t) h = refl
 difference-nan f (fin s m e) (fin t n d) h = add-no-nan f (fin s m e) (fin (not t) n d) refl refl
 
 -- what is equal to zero has no digits
-zero-test : (f : Format) (s : Bool) (m : ℕ) (e : ℤ) → eq (fin s m e) (zeroF f) ≡ eqb m 0
+pub zero-test : (f : Format) (s : Bool) (m : ℕ) (e : ℤ) → eq (fin s m e) (zeroF f) ≡ eqb m 0
 zero-test f s zero e = rw (zero-is f) (unfold eq in rw (zero-mul (up e), zero-mul (down e)) (level-zeros s false))
 zero-test f s (suc m) e = go (eq (fin s (suc m) e) (zeroF f)) (zero-of-eq f s (suc m) e)
   where

@@ -3,6 +3,7 @@ pub mod OneAnswer
 pub mod Branches
 pub mod Choice
 pub mod Powers
+pub mod Sizes
 pub mod Squares
 pub mod Rests
 pub mod Loops
@@ -16,10 +17,19 @@ pub mod Under
 pub mod Zeros
 pub mod Units
 pub mod Exact
+pub mod Reach
+pub mod PowerBits
+pub mod Products
 pub mod Rounding
 pub mod Correct
 pub mod Invalid
+pub mod Owned
 pub mod Magnitude
+pub mod PatternOrder
+pub mod Scaling
+pub mod Unrounded
+pub mod Power
+pub mod Divided
 pub mod Named
 pub mod Assembled
 pub mod Unique

@@ -11,6 +11,7 @@ pub use native.Mathlib.Nat.{mul-comm, mul-left-comm, eq-of-mul-eq-mul-right, eq-
 pub use native.Mathlib.Nat.{mul-div-cancel, mul-zero, zero-add, sub-zero, mod-mod-of-dvd, dvd-mul-right, le-suc, pow-suc, one-le-pow, mul-add, mul-le-mul-left}
 pub use native.Mathlib.Nat.{mul-right-comm, pow-succ', suc-mul, div-one, div-mul-le-self, le-refl, eq-or-lt-of-le, div-eq-of-lt, add-mul-div-right}
 pub use native.Mathlib.Nat.{add-mul-mod-self-right, div-le-of-le-mul, pow-zero, mul-suc, add-assoc}
+pub use native.Mathlib.Nat.{le-div-iff-mul-le, mul-mod-left, min-eq-left, min-eq-right, min-le-right, zero-min}
 pub use native.Mathlib.Omega.{arith}
 pub use native.Mathlib.Numerals.{add-one}
 pub use lib.Dec.{eqb, T, leb, ltb, leb→le, nleb→lt, ltb→lt, nltb→le, lit≤, le→leb, eqb→eq, lt→ltb, lit<, eqb·suc-zero, eqb·zero-suc, isLe, isEq}
@@ -18,9 +19,9 @@ pub use lib.ListN.{length, getD, take, drop, set, length-drop, length-take, leng
 pub use lib.Seq.{take-suc, take-suc-set, getD-drop, getD-take, drop-drop, drop-set-lt, take-all, take-length, drop-cons, drop-length, sets, sets-eq}
 pub use lib.Seq.{take-append-seam, drop-append-add, take-append-add, length-take-le, getD-append-add, take-at, drop-at}
 pub use lib.IntN.{pos, ℤ, negsuc, negℤ, subℕ, _+ℤ_, _-ℤ_, natAbs}
-pub use lib.Pow.{pow-add, pow-pos, pow-lt, pow-mono, shl-lt}
+pub use lib.Pow.{pow-add, pow-pos, pow-lt, pow-mono, shl-lt, shl-exact}
 pub use lib.Ieee.{Float, Format, nan, inf, fin, binary32, binary64, prec, emax, low, up, down, hid, ones, top, size, minus, below, level, unlike, nanBits, ne}
 pub use lib.Ieee.{nearest}
 unfoldable pub use lib.Ieee.{sub, mul, div, le, lt, isNan, odd, ofFields, ofBits, units, fits, toBits, neg, eq, round, sum, add, rem}
-pub use borrow.Author.Tests.{eq-eqb, le-leb, lt-leb, ne-eqb, ltb-true, ltb-false, not-true, not-false, eqb-true, eqb-false, lt-ltb, le-ltb, leb-true}
+pub use borrow.Author.Tests.{eq-eqb, le-leb, lt-leb, ne-eqb, ltb-true, ltb-false, not-true, not-false, eqb-true, eqb-false, lt-ltb, le-ltb, leb-true, leb-false}
 pub use borrow.Author.Needs.{needs}

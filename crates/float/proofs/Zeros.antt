@@ -1,7 +1,7 @@
 -- Zero and epsilon among the finite numbers: what is equal to zero is a zero of either sign, a number without a sign is at least zero,
 -- and epsilon times a number that is no less than epsilon does not vanish, since its square does not.
 use Rattle.float.proofs.Words.{_≡_, refl, sym, _∙_, subst, Bool, true, false, _||_, Bool·beq, true≢false, false≢true, ℕ, zero, suc, _*_, _≤_, _<_}
-use Rattle.float.proofs.Words.{zero-mul, mul-pos, zero-lt-suc, le-refl, lt-irrefl, lt-of-lt-of-le, arith, T, ltb, eqb, eqb→eq, ltb→lt, lt→ltb, lit<, ℤ}
+use Rattle.float.proofs.Words.{zero-mul, mul-pos, zero-lt-suc, le-refl, lt-irrefl, lt-of-lt-of-le, arith, T, ltb, eqb, eqb→eq, ltb→lt, lt→ltb, ℤ}
 use Rattle.float.proofs.Words.{pos, negsuc, Float, nan, inf, fin, Format, binary32, binary64, up, down, mul, lt, eq, le, level, ofBits, ltb-false}
 use Rattle.float.proofs.Words.{lt-ltb, fits}
 use lib.Ieee.Bits.{ofBits-fits}
@@ -86,13 +86,14 @@ zero-lt-above e (fin false n d) a =
 
 -- ---- what is equal to zero is a zero
 
-product-zero : (m : ℕ) (e : ℤ) → m * up e * 1 ≡ 0 → m ≡ 0
-product-zero zero e h = refl
-product-zero (suc m) e h = absurd (lt-irrefl 0 (subst (λ (x : ℕ). 0 < x) h (mul-pos (mul-pos (zero-lt-suc m) (up-pos e)) (lit< tt))))
+pub product-zero : (m : ℕ) (e d : ℤ) → m * up e * down d ≡ 0 → m ≡ 0
+product-zero zero e d h = refl
+product-zero (suc m) e d h = absurd (lt-irrefl 0 (subst (λ (x : ℕ). 0 < x) h (mul-pos (mul-pos (zero-lt-suc m) (up-pos e)) (down-pos d))))
 
 zero-of-level : (s : Bool) (m : ℕ) (e : ℤ) → level s (m * up e * 1) false (0 * down e) ≡ true → m ≡ 0
 zero-of-level s m e h =
-    product-zero m e (eqb→eq _ _ (and-l (eqb (m * up e * 1) (0 * down e)) (Bool·beq s false || eqb (m * up e * 1) 0) (subst T (sym h) tt)) ∙ zero-mul (down e))
+    product-zero m e (pos 0)
+    (eqb→eq _ _ (and-l (eqb (m * up e * 1) (0 * down e)) (Bool·beq s false || eqb (m * up e * 1) 0) (subst T (sym h) tt)) ∙ zero-mul (down e))
 
 pub zero-of-eq : (f : Format) (s : Bool) (m : ℕ) (e : ℤ) → eq (fin s m e) (zeroF f) ≡ true → m ≡ 0
 unfolding eq ofBits

@@ -13,6 +13,7 @@ use crate::bits::not_a_number;
 use crate::bits::of_bits;
 use crate::bits::of_number;
 use crate::bits::to_bits;
+use crate::parts::biased;
 use crate::parts::halved;
 use crate::parts::is_odd;
 use crate::parts::parts_of;
@@ -23,18 +24,13 @@ use crate::width::Exponent;
 use crate::width::HALF_BIAS;
 use crate::width::INFINITY;
 use crate::width::LEADING;
-use crate::width::LOWEST;
 use crate::width::NAN;
 use crate::width::PRECISION;
 use crate::width::Real;
 use crate::width::SIGN;
 ghost use mathlib.Core.Path.{_≡_};
-ghost use mathlib.Core.Bool.{_&&_};
 ghost use Prim.Native.Nat.{_-_, _*_, _/_, _<_};
-ghost use lib.IntN.{pos, negsuc, _+ℤ_};
-ghost use lib.Signed.{leZ};
-ghost use lib.Dec.{T};
-ghost use lib.Ieee.{prec, low, hid, ones};
+ghost use lib.Ieee.{prec, hid, ones};
 ghost use Rattle.float.specs.Width.{F};
 ghost use Rattle.float.specs.Root.{rootBitsOf, RootPromise};
 ghost use Rattle.float.specs.Digits.{WholeRoot, ScaledUp, RootPattern, QuickRoot};
@@ -86,14 +82,6 @@ fn scaled_up(m: Bits) -> Scaled
         j += 1;
     }
     Scaled { m: n, j }
-}
-
-// The exponent's field for a halved exponent h, before the scaling by 4^j is taken off it.
-fn biased(h: Exponent) -> Bits
-    requires { ⌜ T (leZ (negsuc (low F - 1)) h && leZ h (pos 1000)) ⌝ }
-    ensures { λ r. ⌜ pos r ≡ h +ℤ pos (low F) ⌝ }
-{
-    (h - LOWEST) as Bits
 }
 
 // The pattern of the root of the finite number above 0 that b is the pattern of.

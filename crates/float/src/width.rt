@@ -1,5 +1,5 @@
 // The width of the numbers: Real is f64. Every type and constant that another width would change stands here; only the language's
-// own pair of `bits` and the format F of specs/Width.antt stand elsewhere.
+// own functions, which are the pair of `bits` and the leading zeros of `scaled`, and the format F of specs/Width.antt stand elsewhere.
 pub type Real = f64;
 
 // What holds a pattern, and what holds an exponent.
@@ -19,6 +19,11 @@ pub const DIGITS: Exponent = 52;
 pub const LOWEST: Exponent = -1074;
 
 pub const BIAS: Exponent = 1075;
+
+// The exponent of the largest numbers, and the place of the leading digit in a word of one digit.
+pub const GREATEST: Exponent = 1023;
+
+pub const LAST_PLACE: Bits = 63;
 
 // Half of the field of a number from 1 up to 2, rounded down.
 pub const HALF_BIAS: Bits = 511;

@@ -1,0 +1,42 @@
+-- As for one number: with the limited k one product with 2 ^ k, or one quotient by 2 ^ -k, is the rounded product.
+use Rattle.float.proofs.Words.{_≡_, lit<, needs}
+use lib.IntN.{negℤ-negℤ}
+use mir.Val.{toZ, ofZ}
+use Rattle.float.specs.Width.{F, W}
+use Rattle.float.specs.Scaled.{limited}
+use Rattle.float.proofs.Reach.{limited-low, limited-held, opposite-fits, opposite-held, opposite-in-reach}
+use Rattle.float.proofs.Products.{times-power, over-power}
+use Rattle.float.proofs.scaled.scaled9.Statement.{statement}
+use Rattle.float.proofs.scaled.scaled9.Tie as tie
+
+-- j as the machine holds it
+held : (c : tie.After-limited) → toZ W (ofZ W (c .limited .result)) ≡ limited F (c .before .args .k)
+held c = limited-held F W (lit< tt) (c .before .args .k) (c .limited .result) (c .before .fits .k) (c .limited .ensures)
+
+power-requires : tie.Need-power-requires
+power-requires c κs = rw (held (c .before)) (limited-low F (c .before .before .args .k) (rw (held (c .before)) at (c .if1 .taken)))
+
+returns : tie.Need-returns
+returns c = rw (c .power .ensures, held (c .before .before)) (simp times-power)
+
+returns-2 : tie.Need-returns-2
+returns-2 c =
+    let l = c .before .before in
+    let s = l .before in
+    let k = s .args .k in
+    rw (c .power2 .ensures, opposite-held F W (lit< tt) k (l .limited .result) (s .fits .k) (l .limited .ensures) (c .before .if1 .left))
+    (simp (over-power, negℤ-negℤ))
+
+pub scaled9-spec : {M : Type 1} → statement M
+scaled9-spec = tie.close (tie.spec
+    (λ c κs. search needs) power-requires
+    (λ c. search needs) (λ c. search needs) (λ c. search needs) (λ c. search needs) (λ c. search needs) (λ c. search needs) (λ c. search needs)
+    (λ c. search needs) (λ c. search needs)
+    returns
+    (λ c. let l = c .before in opposite-fits F W (lit< tt) (l .before .args .k) (l .limited .result) (l .before .fits .k) (l .limited .ensures) (c .if1 .left))
+    (λ c κs.
+    let l = c .before in
+    opposite-in-reach F W (lit< tt) (l .before .args .k) (l .limited .result) (l .before .fits .k) (l .limited .ensures) (c .if1 .left))
+    (λ c. search needs) (λ c. search needs) (λ c. search needs) (λ c. search needs) (λ c. search needs) (λ c. search needs) (λ c. search needs)
+    (λ c. search needs) (λ c. search needs)
+    returns-2)
