@@ -49,7 +49,7 @@ branches!(Argument {
 
 type Answer = fn(&[u64], &mut [u64], &mut Hits);
 
-const fn helper(name: &'static str, operation: u8, words_out: usize, answer: Answer) -> Subject {
+pub const fn helper(name: &'static str, operation: u8, words_out: usize, answer: Answer) -> Subject {
     Subject {
         name,
         operation,
@@ -71,7 +71,7 @@ pub fn listed(number: u64) -> Option<u64> {
 }
 
 /// Any pattern, a NaN, a subnormal number of any length, or one next to where the exponent changes.
-fn pattern(random: &mut Random) -> u64 {
+pub fn pattern(random: &mut Random) -> u64 {
     let sign = random.bits(1) << 63;
     match random.below(4) {
         0 => random.word(),
@@ -108,7 +108,7 @@ pub fn parts(pattern: u64) -> (u64, i64) {
 }
 
 /// The input as a float, its branch counted.
-fn argument(input: &[u64], hits: &mut Hits) -> f64 {
+pub fn argument(input: &[u64], hits: &mut Hits) -> f64 {
     let (size, minus) = (input[0] % SIGN, input[0] >= SIGN);
     let branches = match size {
         0 => [Argument::PlusZero, Argument::MinusZero],

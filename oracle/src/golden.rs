@@ -144,7 +144,7 @@ fn codes_of(subject: &Subject) -> (&'static [usize], &'static [u64]) {
         ANSWER_NOT_FINITE,
     ];
     match subject.operation {
-        1..=8 | 52..=58 | 66..=72 => (&[], &[]),
+        1..=11 | 52..=58 | 66..=72 => (&[], &[]),
         16..=19 => (&[0, 2, 4], &[DONE, OUTSIDE]),
         20 => (&[8, 13], &[DONE, OUTSIDE]),
         21 => (&[18, 28], &[DONE, OUTSIDE]),

@@ -1,11 +1,12 @@
 //! Answers for a tally, by a seed alone: true ones, and such as no program of ours writes.
 
 use crate::codes::{DONE, OF_RECORDS};
-use crate::kinds::{KINDS, OTHER, ROWS};
+use crate::kinds::{AS_GIVEN, KINDS, OTHER, ROWS};
 use crate::random::Random;
 use crate::record::{answer, ANSWER_BYTES, CODE_AT, COUNT_AT, KIND_AT, SETTLED_AT};
 use crate::requests;
 use crate::tally::{Answer, Head};
+use crate::ways::in_way;
 use std::io::{self, Write};
 
 /// The golden list: the listed answers, then so many true ones of this seed, and so many bytes of a further one.
@@ -118,7 +119,7 @@ fn random_bytes(seed: u64, count: u64) -> impl Iterator<Item = Answer> {
 
 fn true_answers(seed: u64, count: u64) -> impl Iterator<Item = Answer> {
     let mut random = Random::new(seed);
-    (0..count).map(move |_| answer(&requests::any(&mut random).bytes()))
+    (0..count).map(move |_| answer(&in_way(&requests::any(&mut random), AS_GIVEN).bytes()))
 }
 
 fn with_any(random: &mut Random) -> Answer {

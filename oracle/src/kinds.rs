@@ -4,6 +4,8 @@ use crate::algebra::DenseMatrixSymN;
 use crate::cholesky::{self, Size, Sym};
 use crate::codes::{ANSWER_NOT_FINITE, DONE};
 use crate::eigen;
+use crate::numbers::all_finite;
+use crate::powers::{power_of, times};
 use crate::subject::Subject;
 use crate::subjects;
 use crate::svd;
@@ -15,6 +17,8 @@ pub struct Kind {
     pub three: usize,
     /// Whether its answers count rotations.
     pub counts: bool,
+    /// Whether its matrix is scaled unless the request says no.
+    pub scales: bool,
     /// The subject that has the same call: its inputs and branches are the kind's too.
     subject: &'static str,
     work: fn(&[f64; 9], &[f64; 3]) -> Answer,
@@ -22,15 +26,19 @@ pub struct Kind {
 
 /// The kinds, from 1 on.
 pub const KINDS: [Kind; 8] = [
-    kind("eigen 2x2", 3, 0, false, "eigen2", eigen2),
-    kind("eigen 3x3", 6, 0, true, "eigen_jacobi", eigen3),
-    kind("SVD 2x2", 4, 0, false, "svd2", svd2),
-    kind("SVD 3x3", 9, 0, true, "svd3", svd3),
+    kind("eigen 2x2", 3, 0, false, "eigen2", eigen2).scaled(),
+    kind("eigen 3x3", 6, 0, true, "eigen_jacobi", eigen3).scaled(),
+    kind("SVD 2x2", 4, 0, false, "svd2", svd2).scaled(),
+    kind("SVD 3x3", 9, 0, true, "svd3", svd3).scaled(),
     kind("Cholesky 2x2", 3, 0, false, "factor2", factor::<3>),
     kind("Cholesky 3x3", 6, 0, false, "factor3", factor::<6>),
     kind("solve 2x2", 3, 2, false, "factor_and_solve2", solve::<3, 2>),
     kind("solve 3x3", 6, 3, false, "factor_and_solve3", solve::<6, 3>),
 ];
+
+/// The ways of a request: with 0 a matrix that can be scaled is, and with 1 it is worked as it is given.
+pub const DEFAULT: u8 = 0;
+pub const AS_GIVEN: u8 = 1;
 
 /// A table of records has a row for each kind, behind one for all numbers that are none.
 pub const ROWS: usize = KINDS.len() + 1;
@@ -53,12 +61,20 @@ const fn kind(
         nine,
         three,
         counts,
+        scales: false,
         subject,
         work,
     }
 }
 
 impl Kind {
+    const fn scaled(self) -> Self {
+        Self {
+            scales: true,
+            ..self
+        }
+    }
+
     /// The kind with a number, where there is one.
     pub fn of(number: u8) -> Option<&'static Self> {
         const ALL: &[Kind] = &KINDS;
@@ -84,10 +100,34 @@ impl Kind {
         place < self.nine || (9..9 + self.three).contains(&place)
     }
 
-    /// The answer to numbers of which the used ones are finite.
+    /// Whether a request may say so.
+    pub fn has_way(&self, way: u8) -> bool {
+        way == DEFAULT || self.scales && way == AS_GIVEN
+    }
+
+    /// The answer to numbers of which the used ones are finite, in the way that is the default.
+    pub fn default_answer(&self, nine: &[f64; 9], three: &[f64; 3]) -> Answer {
+        if !self.scales {
+            return self.answer(nine, three);
+        }
+        let k = power_of(nine);
+        let worked = self.answer(&divided(nine, k), three)?;
+        let values = worked.values.map(|x| times(x, k));
+        if !all_finite(&values) {
+            return Err(refused(ANSWER_NOT_FINITE));
+        }
+        Ok(Worked { values, ..worked })
+    }
+
+    /// The answer to the numbers as they are.
     pub fn answer(&self, nine: &[f64; 9], three: &[f64; 3]) -> Answer {
         (self.work)(nine, three)
     }
+}
+
+/// Each number divided by 2^k.
+pub fn divided(nine: &[f64; 9], k: i64) -> [f64; 9] {
+    nine.map(|x| times(x, -k))
 }
 
 /// What stands in an answer of code 0. Places that a kind does not fill are +0.

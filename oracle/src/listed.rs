@@ -1,21 +1,152 @@
 //! The requests that come first in every file: the scope's examples, and one by one what chance may leave out.
 
 use crate::cholesky::NAN_PIVOTS;
+use crate::codes::DONE;
 use crate::eigen::isotropic;
 use crate::float::{HIDDEN, INFINITY, NAN, SIGN};
-use crate::kinds::Kind;
+use crate::kinds::{Kind, AS_GIVEN};
 use crate::marks;
-use crate::numbers::power_of_two;
-use crate::places::{of_its_subject, unused_place, used_place, with_words};
+use crate::numbers::{number, power_of_two};
+use crate::places::{byte_that_is_0, of_its_subject, unused_place, used_place, with_words};
+use crate::powers::largest;
 use crate::random::Random;
 use crate::reached::reaching;
-use crate::record::Request;
-use crate::rotations::LIMIT;
+use crate::record::{answer, Request, CODE_AT, COUNT_AT};
+use crate::rotations::{LIMIT, MOST};
+use crate::scalings;
+use crate::ways::{has_both, in_way};
 
 /// Each branch of a kind's definition is reached at least so many times.
 const TIMES: u64 = 8;
 
+/// What comes first in a file: the requests below as they are given, then those that can be scaled, what scaling may meet, and every way
+/// of every kind.
 pub fn listed() -> Vec<Request> {
+    let once = once();
+    let mut all: Vec<Request> = once.iter().map(|one| in_way(one, AS_GIVEN)).collect();
+    all.extend(once.iter().filter(|one| has_both(one)));
+    all.extend(scalings());
+    all.extend((1..=8).flat_map(every_way));
+    all
+}
+
+/// What scaling may meet, for each kind that is scaled.
+pub fn scalings() -> Vec<Request> {
+    let mut all = both_ways();
+    all.extend((1..=4).flat_map(|kind| scalings::reaching(kind, TIMES)));
+    all.extend(small_beside_1());
+    all.extend([2, 4].into_iter().flat_map(each_length));
+    all.extend(longest());
+    numbered(all)
+}
+
+/// Few matrices for each number of rotations that scaled ones at random make.
+fn each_length(kind: u8) -> Vec<Request> {
+    const EACH: u64 = 4;
+    const INPUTS: u64 = 1 << 15;
+    let mut random = Random::new(u64::from(kind));
+    let mut met = [0; MOST as usize + 1];
+    let mut all = Vec::new();
+    for _ in 0..INPUTS {
+        let request = of_its_subject(&mut random, kind, u64::MAX);
+        let answer = answer(&request.bytes());
+        let met = &mut met[usize::from(answer[COUNT_AT])];
+        if u64::from(answer[CODE_AT]) == DONE && *met < EACH {
+            *met += 1;
+            all.push(request);
+        }
+    }
+    all
+}
+
+/// What scaling cures, and what else it changes: the cases of docs/DIFFERENCES.md, each in both ways.
+fn both_ways() -> Vec<Request> {
+    let [tiny, unit, top] = [-46, -1074, 1022].map(power_of_two);
+    let (small, huge) = (power_of_two(-60), power_of_two(1023));
+    let all = [
+        with_numbers(2, &[2.0, 1.0, 2.0, 0.0, 0.0, 5.0].map(|x| x * tiny)),
+        with_numbers(1, &[0.0, small, power_of_two(-53)]),
+        with_numbers(1, &[-huge, top, huge]),
+        with_numbers(1, &[huge, huge, 0.0]),
+        with_numbers(3, &[1.5, 1.5, -1.5, 1.5].map(|x| x * top)),
+        with_numbers(2, &[1.0, 1.0, -1.0, 1.0, 1.0, 1.0].map(|x| x * top)),
+        with_numbers(2, &isotropic(30, 1, 24)),
+        with_numbers(1, &[-f64::MAX, power_of_two(1000), f64::MAX]),
+        with_numbers(1, &[0.0, power_of_two(60), 1.0]),
+        with_numbers(
+            2,
+            &[1.0, power_of_two(-30), 1.0, 0.0, 0.0, power_of_two(20)],
+        ),
+        with_numbers(1, &[huge, 0.0, small]),
+        with_numbers(2, &[1.0, 2.0, 4.0, 3.0, 6.0, 9.0].map(|x| x * unit)),
+    ];
+    let ways = |one: &Request| [in_way(one, AS_GIVEN), *one];
+    all.iter().flat_map(ways).collect()
+}
+
+/// What a search found: the most rotations of matrices from 1 up to 2, which are 10 of a symmetric one, and 12 and 13 of others.
+fn longest() -> impl Iterator<Item = Request> {
+    const EIGEN: [u64; 6] = [
+        0x3FFA_C2DF_067A_C4EA,
+        0,
+        8,
+        0x3FFF_FFFF_FFFF_FFA0,
+        0xBFFF_FFFF_FFFF_FFA0,
+        0x3FFA_C2DF_067A_C4EA,
+    ];
+    const SVD: [[u64; 9]; 2] = [
+        [
+            0x8000_0000_0000_0002,
+            0x3FF0_6060_5FD1_C1BA,
+            0xBFFE_77C5_CD80_6D6F,
+            0xBFF0_6060_5FD1_C1BB,
+            0x8000_0000_0000_0000,
+            0x3FA1_A865_87B7_BCD1,
+            0x3FC2_3C5D_9569_1C0D,
+            0x3FFF_FFFF_FFFF_FFF8,
+            3,
+        ],
+        [
+            0xBFFF_FFFF_FFFF_FEEA,
+            0x3FD0_B991_0F69_83D1,
+            0x3FE0_741C_CF77_CD05,
+            0x3F51_14FD_A185_0DA0,
+            0x3FFC_5F31_117A_5A92,
+            0xBFEF_61A7_8A36_1404,
+            0xBFE1_2373_CD97_D48B,
+            0xBFEE_589C_4D18_4E5F,
+            0xBFFC_7F02_C77B_632F,
+        ],
+    ];
+    let svd = SVD.iter().map(|words| with_words(4, words));
+    [with_words(2, &EIGEN)].into_iter().chain(svd)
+}
+
+/// What the mark of a 3x3 SVD turns on, in a pair that stays small when the matrix is scaled: the third number of the diagonal is 1.
+fn small_beside_1() -> impl Iterator<Item = Request> {
+    let small = blind_rotations(4).into_iter();
+    let with_1 = small.filter(|one| one.nine[8] == 0).map(|mut one| {
+        one.nine[8] = 1.0f64.to_bits();
+        one
+    });
+    with_1.filter(|one| largest(&one.nine.map(number)) == 1.0)
+}
+
+/// Event numbers that use all four bytes.
+fn numbered(mut all: Vec<Request>) -> Vec<Request> {
+    for (number, request) in all.iter_mut().enumerate().skip(1) {
+        request.event = (number as u32).wrapping_mul(0x9E37_79B1);
+    }
+    all
+}
+
+/// Every byte in place of the way.
+fn every_way(kind: u8) -> impl Iterator<Item = Request> {
+    (0..=255).map(move |way| Request { way, ..good(kind) })
+}
+
+/// The requests that are listed, each of them once.
+pub fn once() -> Vec<Request> {
     let mut all = of_the_scope();
     all.extend(of_the_subjects());
     all.extend(of_each_branch());
@@ -28,11 +159,7 @@ pub fn listed() -> Vec<Request> {
     }
     all.extend(nan_pivots());
     all.extend((1..=4).flat_map(blind_rotations));
-    for (number, request) in all.iter_mut().enumerate().skip(1) {
-        // so that all four bytes of the event's number are used
-        request.event = (number as u32).wrapping_mul(0x9E37_79B1);
-    }
-    all
+    numbered(all)
 }
 
 fn with_numbers(kind: u8, numbers: &[f64]) -> Request {
@@ -164,7 +291,7 @@ fn good(kind: u8) -> Request {
     }
 }
 
-/// Each bit of each reserved byte, and in each number that the kind does not use the lowest bit, the highest, one in the middle, a
+/// Each bit of the way and of each reserved byte, and in each number that the kind does not use the lowest bit, the highest, one in the middle, a
 /// subnormal number, 1, an infinity, and NaNs.
 fn not_zero(kind: u8) -> Vec<Request> {
     const ONE: u64 = 1.0f64.to_bits();
@@ -174,7 +301,7 @@ fn not_zero(kind: u8) -> Vec<Request> {
     for byte in 0..3 {
         for bit in 0..8 {
             let mut request = good(kind);
-            request.reserved[byte] = 1 << bit;
+            *byte_that_is_0(&mut request, byte) = 1 << bit;
             all.push(request);
         }
     }
@@ -188,7 +315,7 @@ fn not_zero(kind: u8) -> Vec<Request> {
     all
 }
 
-/// Each number that the kind uses: both infinities, and NaNs of both signs and both sorts. Then the same with a reserved byte set,
+/// Each number that the kind uses: both infinities, and NaNs of both signs and both sorts. Then the same with a byte set that is to be 0,
 /// which comes first.
 fn not_finite(kind: u8) -> Vec<Request> {
     let of = Kind::of(kind).expect("a known kind");
@@ -207,7 +334,7 @@ fn not_finite(kind: u8) -> Vec<Request> {
             all.push(request);
         }
         let mut both = *all.last().expect("one");
-        both.reserved[place % 3] = 1;
+        *byte_that_is_0(&mut both, place % 3) = 1;
         all.push(both);
     }
     all
@@ -239,7 +366,7 @@ fn nan_pivots() -> Vec<Request> {
             let mut before = [*all.last().expect("one"); 3];
             before[0].nine[2] = 0;
             before[1].nine[5] = INFINITY;
-            before[2].reserved[2] = 1;
+            before[2].reserved[1] = 1;
             all.extend(before);
         }
     }

@@ -6,6 +6,7 @@ mod cholesky;
 mod codes;
 mod driver;
 mod eigen;
+mod exact;
 mod float;
 mod golden;
 mod heads;
@@ -21,6 +22,7 @@ mod modules;
 mod nights;
 mod numbers;
 mod places;
+mod powers;
 mod random;
 mod reached;
 mod record;
@@ -29,6 +31,8 @@ mod root;
 mod rotations;
 mod row;
 mod rows;
+mod scaled;
+mod scalings;
 mod search;
 mod shapes;
 mod stream;
@@ -38,6 +42,7 @@ mod svd;
 mod table;
 mod tallies;
 mod tally;
+mod ways;
 
 use std::io::{self, BufReader, BufWriter, Read, Write};
 use std::process::ExitCode;
@@ -49,6 +54,7 @@ fn main() -> ExitCode {
     let done = match &words[..] {
         ["subjects"] => Some(Ok(list_subjects())),
         ["operations", input, output] => Some(golden::write(input, output)),
+        ["powers", count, seed] => powers(count, seed),
         _ => with_records(&words)
             .or_else(|| with_tallies(&words))
             .or_else(|| with_rows(&words))
@@ -72,7 +78,9 @@ fn usage() {
     eprintln!("usage: oracle subjects");
     eprintln!("       oracle SUBJECT COUNT SEED [PROBE-COMMAND...]");
     eprintln!("       oracle operations INPUT OUTPUT");
+    eprintln!("       oracle powers COUNT SEED");
     eprintln!("       oracle search-eigen COUNT SEED");
+    eprintln!("       oracle search-scaled COUNT SEED");
     eprintln!("       oracle requests COUNT SEED > REQUESTS");
     eprintln!("       oracle golden > REQUESTS");
     eprintln!("       oracle answers < REQUESTS > ANSWERS");
@@ -94,6 +102,11 @@ fn list_subjects() -> bool {
     subjects::all().count() > 0
 }
 
+/// Whether the products with powers of two are right.
+fn powers(count: &str, seed: &str) -> Option<io::Result<bool>> {
+    Some(Ok(exact::show(count.parse().ok()?, seed.parse().ok()?)))
+}
+
 /// Does what the words ask for, where that is of records, and says whether all is well.
 fn with_records(words: &[&str]) -> Option<io::Result<bool>> {
     Some(match words {
@@ -101,7 +114,7 @@ fn with_records(words: &[&str]) -> Option<io::Result<bool>> {
         ["requests", count, seed] => {
             write_requests(count.parse().ok()?, seed.parse().ok()?).map(|()| true)
         }
-        ["golden"] => write_requests(requests::GOLDEN.0, requests::GOLDEN.1).map(|()| true),
+        ["golden"] => golden_requests().map(|()| true),
         ["branches"] => reached::show(&mut io::stdin().lock()),
         ["table", requests, answers] => table::show(requests, answers),
         _ => return None,
@@ -151,16 +164,25 @@ fn write_requests(count: u64, seed: u64) -> io::Result<()> {
     requests::write(count, seed, &mut BufWriter::with_capacity(1 << 16, output))
 }
 
+fn golden_requests() -> io::Result<()> {
+    requests::write_golden(&mut BufWriter::new(stream::standard_output()?))
+}
+
 /// The same of a subject.
 fn with_subject(words: &[&str]) -> Option<io::Result<bool>> {
     let [name, count, seed, probe @ ..] = words else {
         return None;
     };
     let (count, seed) = (count.parse().ok()?, seed.parse().ok()?);
-    if *name == "search-eigen" {
-        search::eigen(count, seed);
-        return Some(Ok(true));
+    match *name {
+        "search-eigen" => search::eigen(count, seed),
+        "search-scaled" => search::scaled(count, seed),
+        _ => return with_named(name, count, seed, probe),
     }
+    Some(Ok(true))
+}
+
+fn with_named(name: &str, count: u64, seed: u64, probe: &[&str]) -> Option<io::Result<bool>> {
     let subject = subjects::named(name)?;
     Some(if probe.is_empty() {
         Ok(driver::survey(subject, count, seed))

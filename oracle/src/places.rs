@@ -5,6 +5,14 @@ use crate::random::Random;
 use crate::record::Request;
 use crate::subject::{Hits, Subject};
 
+/// The bytes that are 0 in what a maker makes: the way, and the reserved ones.
+pub fn byte_that_is_0(request: &mut Request, number: usize) -> &mut u8 {
+    match number {
+        0 => &mut request.way,
+        _ => &mut request.reserved[number - 1],
+    }
+}
+
 /// A place that the kind does not use, counted through the nine and then the three.
 pub fn unused_place<'a>(of: &Kind, request: &'a mut Request, number: usize) -> &'a mut u64 {
     let (nine, three) = (&mut request.nine[of.nine..], &mut request.three[of.three..]);

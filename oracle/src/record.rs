@@ -1,7 +1,7 @@
 //! Requests and answers in bytes, by the scope's section "Bytes", and the codes in their order.
 
 use crate::codes::{DONE, INPUT_LENGTH, INPUT_NOT_FINITE, KIND, NOT_ZERO};
-use crate::kinds::{refused, Answer, Kind};
+use crate::kinds::{refused, Answer, Kind, DEFAULT};
 use crate::numbers::{all_finite, number};
 
 pub const REQUEST_BYTES: usize = 104;
@@ -18,12 +18,17 @@ pub const SETTLED_AT: usize = 7;
 /// The numbers of both start here.
 pub const NUMBERS_AT: usize = 8;
 
+/// A request then has its way, and reserved bytes.
+pub const WAY_AT: usize = 5;
+const RESERVED_AT: usize = 6;
+
 /// A request's parts. Its numbers are patterns, since an unused one must have no bit set.
 #[derive(Clone, Copy, Default)]
 pub struct Request {
     pub event: u32,
     pub kind: u8,
-    pub reserved: [u8; 3],
+    pub way: u8,
+    pub reserved: [u8; 2],
     pub nine: [u64; 9],
     pub three: [u64; 3],
 }
@@ -37,7 +42,8 @@ impl Request {
         Self {
             event: u32::from_le_bytes(bytes[..KIND_AT].try_into().expect("four bytes")),
             kind: bytes[KIND_AT],
-            reserved: [bytes[5], bytes[6], bytes[7]],
+            way: bytes[WAY_AT],
+            reserved: [bytes[RESERVED_AT], bytes[RESERVED_AT + 1]],
             nine: std::array::from_fn(word),
             three: std::array::from_fn(|i| word(9 + i)),
         }
@@ -47,7 +53,8 @@ impl Request {
         let mut bytes = [0; REQUEST_BYTES];
         bytes[..KIND_AT].copy_from_slice(&self.event.to_le_bytes());
         bytes[KIND_AT] = self.kind;
-        bytes[KIND_AT + 1..NUMBERS_AT].copy_from_slice(&self.reserved);
+        bytes[WAY_AT] = self.way;
+        bytes[RESERVED_AT..NUMBERS_AT].copy_from_slice(&self.reserved);
         let places = bytes[NUMBERS_AT..].chunks_exact_mut(8);
         for (place, word) in places.zip(self.nine.iter().chain(&self.three)) {
             place.copy_from_slice(&word.to_le_bytes());
@@ -63,7 +70,8 @@ impl Request {
         let mut unused = self.nine[kind.nine..]
             .iter()
             .chain(&self.three[kind.three..]);
-        if self.reserved != [0; 3] || unused.any(|word| *word != 0) {
+        let set = self.reserved != [0; 2] || unused.any(|word| *word != 0);
+        if set || !kind.has_way(self.way) {
             return Err(refused(NOT_ZERO));
         }
         // the unused ones are zeros by now
@@ -71,7 +79,10 @@ impl Request {
         if !all_finite(&nine) || !all_finite(&three) {
             return Err(refused(INPUT_NOT_FINITE));
         }
-        kind.answer(&nine, &three)
+        match self.way {
+            DEFAULT => kind.default_answer(&nine, &three),
+            _ => kind.answer(&nine, &three),
+        }
     }
 }
 

@@ -1,37 +1,90 @@
 //! Requests for a run, by a seed alone: first the listed ones, then any number at random, and last a part of one.
 
 use crate::float::{subnormal, SIGN};
-use crate::kinds::Kind;
-use crate::listed::listed;
+use crate::kinds::{Kind, AS_GIVEN};
+use crate::listed::{listed, once, scalings};
 use crate::nights;
 use crate::numbers::{finite, not_finite};
-use crate::places::{of_its_subject, of_subject, unused_place, used_place};
+use crate::places::{byte_that_is_0, of_its_subject, of_subject, unused_place, used_place};
 use crate::random::Random;
 use crate::record::{Request, REQUEST_BYTES};
+use crate::scalings;
+use crate::ways::{has_both, in_way};
 use std::io::{self, Write};
 
-/// The golden list: so many requests of this seed.
-pub const GOLDEN: (u64, u64) = (5397, 1);
+/// The golden list: so many requests of this seed as they are given, and the same scaled.
+const GOLDEN: (u64, u64) = (5397, 1);
 
-/// One in so many of the random requests is about a mark.
+/// One in so many of the random requests is about a mark, and one is about a scaling.
 const MARKS: u64 = 16;
+
+/// Random requests, by a seed. Marks and scalings have random numbers of their own, so that they leave the other requests as they are.
+struct Source {
+    any: Random,
+    of_marks: Random,
+    of_scalings: Random,
+}
+
+impl Source {
+    fn new(seed: u64) -> Self {
+        Self {
+            any: Random::new(seed),
+            of_marks: Random::new(!seed),
+            of_scalings: Random::new(seed.swap_bytes()),
+        }
+    }
+
+    /// The request with this number, with no way yet.
+    fn request(&mut self, number: u64) -> Request {
+        match number % MARKS {
+            0 => about_a_mark(&mut self.of_marks),
+            _ => any(&mut self.any),
+        }
+    }
+
+    /// The same in either way, or one about a scaling.
+    fn in_a_way(&mut self, number: u64) -> Request {
+        if number % MARKS == MARKS / 2 {
+            return about_a_scaling(&mut self.of_scalings);
+        }
+        let way = self.of_scalings.below(2) as u8;
+        in_way(&self.request(number), way)
+    }
+
+    /// A part of a further request.
+    fn part(&mut self) -> Vec<u8> {
+        let length = 1 + self.any.below(REQUEST_BYTES as u64 - 1) as usize;
+        in_way(&any(&mut self.any), AS_GIVEN).bytes()[..length].to_vec()
+    }
+}
 
 /// Writes so many whole requests, and a part of a further one.
 pub fn write(count: u64, seed: u64, output: &mut impl Write) -> io::Result<()> {
-    let mut random = Random::new(seed);
-    // random numbers of their own, so that these leave the other requests as they are
-    let mut of_marks = Random::new(!seed);
+    let mut source = Source::new(seed);
     let listed = listed();
     for number in 0..count {
         let request = match listed.get(number as usize) {
             Some(request) => *request,
-            None if number % MARKS == 0 => about_a_mark(&mut of_marks),
-            None => any(&mut random),
+            None => source.in_a_way(number),
         };
         output.write_all(&request.bytes())?;
     }
-    let part = 1 + random.below(REQUEST_BYTES as u64 - 1) as usize;
-    output.write_all(&any(&mut random).bytes()[..part])?;
+    output.write_all(&source.part())?;
+    output.flush()
+}
+
+/// Writes the golden list.
+pub fn write_golden(output: &mut impl Write) -> io::Result<()> {
+    let (count, seed) = GOLDEN;
+    let mut source = Source::new(seed);
+    let mut all = once();
+    all.extend((all.len() as u64..count).map(|number| source.request(number)));
+    let as_given = all.iter().map(|one| in_way(one, AS_GIVEN));
+    let scaled = all.iter().copied().filter(has_both).chain(scalings());
+    for request in as_given.chain(scaled) {
+        output.write_all(&request.bytes())?;
+    }
+    output.write_all(&source.part())?;
     output.flush()
 }
 
@@ -62,6 +115,15 @@ fn about_a_mark(random: &mut Random) -> Request {
     request
 }
 
+/// A request, in the way that is the default, whose numbers are hard to scale.
+fn about_a_scaling(random: &mut Random) -> Request {
+    let kind = 1 + random.below(4) as u8;
+    Request {
+        event: event(random),
+        ..scalings::hard(random, kind)
+    }
+}
+
 fn event(random: &mut Random) -> u32 {
     match random.below(16) {
         0 => 0,
@@ -90,13 +152,13 @@ fn bad_kind(random: &mut Random) -> u8 {
     }
 }
 
-/// Sets a reserved byte, or a number that the kind does not use, and now and then several.
+/// Sets a byte that is to be 0, or a number that the kind does not use, and now and then several.
 fn set_unused(random: &mut Random, request: &mut Request) {
     let of = Kind::of(request.kind).expect("a known kind");
     let unused = 12 - of.nine - of.three;
     loop {
         match random.below(3 + unused as u64) as usize {
-            byte @ 0..3 => request.reserved[byte] = 1 + random.below(255) as u8,
+            byte @ 0..3 => *byte_that_is_0(request, byte) = 1 + random.below(255) as u8,
             place => *unused_place(of, request, place - 3) = not_zero(random),
         }
         if random.below(4) > 0 {

@@ -7,6 +7,7 @@ use crate::in_place;
 use crate::marks;
 use crate::matrix;
 use crate::root;
+use crate::scaled;
 use crate::subject::Subject;
 use crate::svd;
 
@@ -14,6 +15,7 @@ use crate::svd;
 const SUBJECTS: &[&[Subject]] = &[
     float::SUBJECTS,
     root::SUBJECTS,
+    scaled::SUBJECTS,
     matrix::SUBJECTS,
     cholesky::SUBJECTS,
     eigen::SUBJECTS,

@@ -213,7 +213,7 @@ const KINDS: [fn(&mut Random) -> [f64; 9]; 18] = [
 ];
 
 /// A matrix by columns, with the place of its kind.
-fn matrix(random: &mut Random) -> (usize, [f64; 9]) {
+pub fn matrix(random: &mut Random) -> (usize, [f64; 9]) {
     let kind = random.below(KINDS.len() as u64) as usize;
     (kind, KINDS[kind](random))
 }
@@ -454,7 +454,7 @@ pub fn pair_at(p: usize, q: usize) -> usize {
 }
 
 /// The sums of the pairs' magnitudes.
-fn sizes_of(a: &DenseMatrix3<f64>) -> [f64; 3] {
+pub fn sizes_of(a: &DenseMatrix3<f64>) -> [f64; 3] {
     PAIRS.map(|(_, p, q)| a[(p, q)].abs() + a[(q, p)].abs())
 }
 

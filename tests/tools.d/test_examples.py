@@ -45,7 +45,7 @@ class Night(ToolTest):
         self.assertIn(f'{len(self.whole)} requests', content(os.path.join(EXAMPLES, 'README.md')).decode('utf-8'))
         self.assertTrue(0 < len(self.requests) % 104)
         isotropic = struct.pack('<6d', 2.0 ** 30, 2.0 ** -24, 2.0 ** 30, 2.0 ** -24, 0, 2.0 ** 30)
-        self.assertEqual(sum(request[4] == 2 and request[8:56] == isotropic for request in self.whole), 1)
+        self.assertEqual([request[5] for request in self.whole if request[4] == 2 and request[8:56] == isotropic], [0, 1])
         shear = struct.pack('<9d', 0, 1, 2.0 ** -60, 0, 0, 2.0 ** -60, 0, 0, 0)
         self.assertEqual([request[4:80] for request in self.whole[-2:]],
                          [b'\1\0\0\0' + shear[:24] + bytes(48), b'\2\0\0\0' + shear])
@@ -58,11 +58,27 @@ class Night(ToolTest):
         self.assertEqual([answer['event'] for answer in shown[:-1]], [struct.unpack('<I', r[:4])[0] for r in self.whole])
         self.assertEqual([content(ANSWERS)[176 * i + 4] for i in range(len(self.whole))], [r[4] for r in self.whole])
         codes = collections.Counter(answer['code'] for answer in shown)
-        self.assertEqual(codes, {0: len(self.whole) - 16, 1: 1, 3: 3, 4: 3, 5: 3, 6: 4, 7: 2, 9: 1})
+        self.assertEqual(codes, {0: len(self.whole) - 17, 1: 1, 3: 3, 4: 4, 5: 3, 6: 4, 7: 2, 9: 1})
         self.assertEqual(shown[-1]['code'], 1)
         self.assertEqual([(answer['kind'], answer['rotations']) for answer in shown if answer['settled'] is False],
                          [('eigen3', 25), ('eigen2', None), ('eigen3', 1)])
         self.assertEqual({answer['kind'] for answer in shown if answer['code'] == 0}, set(KINDS))
+
+    def test_its_tiny_tensors(self):
+        """Those in reduced units are turned, and unturned in the old way. The examples' page names their events."""
+        _, out, _ = self.run_tool('show-answers', '--json', ANSWERS)
+        ways = {0: [], 1: []}
+        for request, answer in zip(self.whole, map(json.loads, out.splitlines())):
+            numbers = struct.unpack('<6d', request[8:56])
+            if request[4] == 2 and 0 < max(map(abs, numbers)) < 1e-12:
+                ways[request[5]].append(answer['event'])
+                self.assertTrue(answer['settled'])
+                self.assertEqual(answer['rotations'] in range(7, 10), request[5] == 0, answer)
+                if request[5]:
+                    self.assertEqual(answer['values'], sorted(numbers[i] for i in (0, 2, 5)))
+        self.assertEqual((len(ways[0]), ways[1]), (6, ways[0][-2:]))
+        page = ' '.join(content(os.path.join(EXAMPLES, 'README.md')).decode('utf-8').split())
+        self.assertIn(f"{', '.join(map(str, ways[0][:-1]))} and {ways[0][-1]}.", page)
 
     def test_its_tally(self):
         """The listing has what is found by looking at each answer."""

@@ -12,6 +12,10 @@ WHOLE_EXAMPLE = (bytes.fromhex('07000000 01 000000')
                  + bytes.fromhex('0000000000000040 000000000000F03F 0000000000000040') + bytes(72))
 
 
+# the same in the old way
+OLD_EXAMPLE = WHOLE_EXAMPLE[:5] + b'\1' + WHOLE_EXAMPLE[6:]
+
+
 class Lists(ToolTest):
     def made(self, text, *words):
         status, out, err = self.run_tool('make-requests', *words, given=text.encode('utf-8'))
@@ -35,9 +39,21 @@ class Lists(ToolTest):
             numbers = list(range(1, nine + three + 1))
             places = numbers[:nine] + [0] * (9 - nine) + numbers[nine:] + [0] * (3 - three)
             expected = struct.pack('<IB3x12d', 4294967295, number, *places)
+            old = expected[:5] + bytes([number <= 4]) + expected[6:]
             line = ' '.join(map(str, numbers))
             self.assertEqual(self.made(f'4294967295 {name} {line}'), expected, name)
             self.assertEqual(self.made(f'4294967295 {number} {line}'), expected, name)
+            self.assertEqual(self.made(f'4294967295 {name} {line}', '--old-way'), old, name)
+            if number <= 4:
+                self.assertEqual(self.made(f'4294967295 {number} old {line}'), old, name)
+
+    def test_the_old_way(self):
+        for text in ('7 eigen2 old 2 1 2', '7 1 OLD 2 1 2 # as before'):
+            self.assertEqual(self.made(text), OLD_EXAMPLE, text)
+            self.assertEqual(self.made(text, '--old-way'), OLD_EXAMPLE, text)
+        self.assertEqual(self.made('7 eigen2 old 2 1 2\n7 eigen2 2 1 2\n'), OLD_EXAMPLE + WHOLE_EXAMPLE)
+        self.assertEqual(self.made('event,kind,n\n7,eigen2 old,2,1,2\n7, 1  Old ,2,1,2,,\n', '--csv'), OLD_EXAMPLE * 2)
+        self.assertEqual(self.made('event,kind,n\n7,eigen2,2,1,2\n', '--csv', '--old-way'), OLD_EXAMPLE)
 
     def test_numbers_are_exact(self):
         cases = {'0x1.8p+3': 12.0, '-0x1p-1074': -2.0 ** -1074, '0x1.fffffffffffffp+1023': sys.float_info.max,
@@ -78,6 +94,11 @@ class BadLines(ToolTest):
             ('1 solve3 1 2 3 4 5 6 7 8 9 10', 'solve3 needs 9 numbers (A11 A12 A22 A13 A23 A33 b1 b2 b3), and here are 10'),
             ('1 eigen2', 'eigen2 needs 3 numbers'),
             ('1', 'a line is: event number, kind, numbers'),
+            ('1 cholesky2 old 1 2 3', "cholesky2 has no old way: leave out 'old'"),
+            ('1 8 Old 1 2 3 4 5 6 7 8 9', "solve3 has no old way: leave out 'Old'"),
+            ('1 old 1 2 3', "kind 'old' is unknown"),
+            ('1 eigen2 1 old 2', "'old' is not a number"),
+            ('1 eigen2 old', 'eigen2 needs 3 numbers (A11 A12 A22), and here are 0'),
             ('1 eigen2 1 2 three', "'three' is not a number"),
             ('1 eigen2 1 2 1_0', "'1_0' is not a number"),
             ('1 eigen2 1 2 0x', "'0x' is not a number"),

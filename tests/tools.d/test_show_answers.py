@@ -49,7 +49,7 @@ class Text(ToolTest):
         expected += ['15 eigen3 25 no 0 answered',
                      '- - - - 1 the request has the wrong length',
                      '16 unknown 9 - - 3 the kind is not 1 to 8',
-                     '17 eigen2 - - 4 a reserved byte or an unused number is not all zero bits',
+                     '17 eigen2 - - 4 a reserved byte or an unused number is not all zero bits, or the kind has no such way',
                      '18 eigen3 - - 5 a used number of the request is NaN or infinite',
                      '19 cholesky3 - - 6 pivot 3 is <= 0',
                      '20 solve3 - - 7 a number of the answer or of the worked matrix is NaN or infinite',

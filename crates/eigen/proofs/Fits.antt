@@ -1,5 +1,5 @@
 -- Each value of an answer is a value of the format: it is a number of the matrix that was given, or what an operation gave, and an operation gives no other.
-use Rattle.float.proofs.Words.{_≡_, subst, List, [], _∷_, ℕ, zero, suc, arith, T, length, Float, Format, fits}
+use Rattle.float.proofs.Words.{_≡_, refl, subst, List, [], _∷_, ℕ, zero, suc, arith, T, length, Float, Format, fits}
 use lib.Ieee.Fits.{add-fits, sub-fits}
 use Rattle.float.proofs.Judged.{by-call}
 use Rattle.float.proofs.Zeros.{zero-fits}
@@ -20,6 +20,7 @@ use Rattle.eigen.specs.declared.eigen2x2.Eigen2.{Eigen2}
 use Rattle.eigen.specs.declared.eigen3x3.Eigen3.{Eigen3}
 use Rattle.eigen.proofs.Watched.{watched-ends}
 use Rattle.eigen.proofs.Moved.{same-permutation, same-permutation2}
+use Rattle.eigen.proofs.Full.{solved-full}
 
 -- ---- the six numbers of a state
 
@@ -56,6 +57,13 @@ values-fit f a n h =
     by-call (refusedEigen f) a (numbersOf (w .state)) (answerOf f w) (λ (r : Eigen3). Fit f 3 (r .values))
     (λ _ _. ranked-fit f (w .state) (rw (watched-ends f a) (last-fit f a given)))
     (λ _ _. zeros-fit f 3) (λ _. zeros-fit f 3)
+
+pub values2-length : (f : Format) (a : List Float) → length (eigen2Of f a .values) ≡ 2
+unfolding eigen2Of end2Of
+values2-length f a =
+    let x = solved2 f a in
+    by-call (refused2 f) a (numbers2Of x) (answer2Of (blind2Of f a) x) (λ (r : Eigen2). length (r .values) ≡ 2)
+    (λ _ _. solved-full f a .0) (λ _ _. refl) (λ _. refl)
 
 -- both are what an operation gave, whatever the matrix is
 pub values2-fit : (f : Format) (a : List Float) → Fit f 2 (eigen2Of f a .values)

@@ -1,3 +1,4 @@
 pub mod Rows
 pub mod Works
+pub mod BothWays
 pub mod Unique

@@ -1,7 +1,7 @@
 -- What holds of each row of the table holds of every kind: a number finds its row, or the row that stands for none.
-use Rattle.float.proofs.Words.{_≡_, true, not, false≢true, List, [], _∷_, ℕ, _≤_, arith, eqb}
+use Rattle.float.proofs.Words.{_≡_, true, not, false≢true, List, [], _∷_, ℕ, _≤_, arith, T, eqb}
 use Rattle.float.proofs.Choice.{chosen}
-use Rattle.kinds.specs.Table.{kinds, unknown, numberedIn, kindNumbered}
+use Rattle.kinds.specs.Table.{kinds, unknown, numberedIn, kindNumbered, countOfRow}
 use Rattle.kinds.specs.declared.table.Kind.{Kind}
 
 -- P of each row
@@ -38,6 +38,9 @@ pub nine-most : (n : ℕ) → kindNumbered n .nine ≤ 9
 nine-most =
     each-kind (λ (k : Kind). k .nine ≤ 9) (omega arith) (omega arith) (omega arith) (omega arith) (omega arith) (omega arith) (omega arith) (omega arith)
     (omega arith)
+
+pub nine-counts : (n : ℕ) → T (countOfRow (kindNumbered n .nine))
+nine-counts = each-kind (λ (k : Kind). T (countOfRow (k .nine))) tt tt tt tt tt tt tt tt tt
 
 pub three-most : (n : ℕ) → kindNumbered n .three ≤ 3
 three-most =

@@ -22,7 +22,7 @@ use Rattle.svd.proofs.Owed.{svd2-owed, svd3-owed}
 use Rattle.svd.specs.declared.svd3x3.Svd3.{Svd3}
 use Rattle.kinds.specs.Table.{kindNumbered}
 use Rattle.kinds.specs.Work.{firstOf, refusedKind, fromEigen2, fromEigen3, fromSvd2, fromSvd3, fromFactor, fromSolved, usedFinite}
-use Rattle.kinds.specs.Work.{answeredBy, workOf}
+use Rattle.kinds.specs.Work.{answeredBy, plainOf}
 use Rattle.kinds.specs.declared.table.Kind.{Kind}
 use Rattle.kinds.specs.declared.work.Asked.{Asked}
 use Rattle.kinds.specs.declared.work.Worked.{Worked}
@@ -37,9 +37,9 @@ factor-sized : (f : Format) (s : ℕ) (r : FactorAnswer) → Sized (fromFactor f
 unfolding fromFactor
 factor-sized f s r = chosen Sized (eqb (r .code) 0) _ _ (refl, refl, refl) (refl, refl, refl)
 
-pub work-sized : (f : Format) (a : Asked) → Sized (workOf f a)
+pub plain-sized : (f : Format) (a : Asked) → Sized (plainOf f a)
 unfolding answeredBy
-work-sized f a =
+plain-sized f a =
     each-kind (λ (k : Kind). Sized (answeredBy f (k .kernel) a)) (refl, refl, refl)
     (refl, refl, refl)
     (refl, refl, refl)
@@ -63,9 +63,9 @@ factor-clear : (f : Format) (s : ℕ) (r : FactorAnswer) → Clear f (fromFactor
 unfolding fromFactor
 factor-clear f s r = chosen (Clear f) (eqb (r .code) 0) _ _ (λ h. absurd (h refl)) (λ _. refl)
 
-pub work-clear : (f : Format) (a : Asked) → Clear f (workOf f a)
+pub plain-clear : (f : Format) (a : Asked) → Clear f (plainOf f a)
 unfolding answeredBy
-work-clear f a =
+plain-clear f a =
     let nine = a .nine in
     let three = a .three in
     each-kind (λ (k : Kind). Clear f (answeredBy f (k .kernel) a)) (λ _. refl)
@@ -88,9 +88,9 @@ factor-uncounted : (f : Format) (s : ℕ) (r : FactorAnswer) → ((Stopped (r .c
 unfolding fromFactor
 factor-uncounted f s r h = by-eqb (Uncounted false) (r .code) 0 _ _ (λ _ _ _. refl) (λ _ n _. h n)
 
-pub work-uncounted : (f : Format) (a : Asked) → Uncounted (kindNumbered (a .kind) .counts) (workOf f a)
+pub plain-uncounted : (f : Format) (a : Asked) → Uncounted (kindNumbered (a .kind) .counts) (plainOf f a)
 unfolding answeredBy
-work-uncounted f a =
+plain-uncounted f a =
     let nine = a .nine in
     let three = a .three in
     each-kind (λ (k : Kind). Uncounted (k .counts) (answeredBy f (k .kernel) a)) (λ _ _. refl)
@@ -114,9 +114,9 @@ factor-mark : (f : Format) (s : ℕ) (r : FactorAnswer) → fromFactor f s r .se
 unfolding fromFactor
 factor-mark f s r = chosen (λ (w : Worked). w .settled ≤ 1) (eqb (r .code) 0) _ _ (omega arith) (omega arith)
 
-pub work-mark : (f : Format) (a : Asked) → workOf f a .settled ≤ 1
+pub plain-mark : (f : Format) (a : Asked) → plainOf f a .settled ≤ 1
 unfolding answeredBy
-work-mark f a =
+plain-mark f a =
     let nine = a .nine in
     let three = a .three in
     each-kind (λ (k : Kind). answeredBy f (k .kernel) a .settled ≤ 1) (omega arith)
@@ -132,7 +132,7 @@ work-mark f a =
 
 -- ---- over finite numbers: not 5
 
-abbrev NotFive : Worked → Type 0
+abbrev pub NotFive : Worked → Type 0
 NotFive w = w .code ≡ 5 → ⊥
 
 -- a record of a factor has the factor's code
@@ -147,9 +147,9 @@ Used a k = (allFinite (firstOf (k .nine) (a .nine)) ≡ true) × (allFinite (fir
 pub used : (a : Asked) → usedFinite a ≡ true → Used a (kindNumbered (a .kind))
 used a h = both-true (allFinite (firstOf (kindNumbered (a .kind) .nine) (a .nine))) (allFinite (firstOf (kindNumbered (a .kind) .three) (a .three))) h
 
-pub work-five : (f : Format) (a : Asked) → usedFinite a ≡ true → NotFive (workOf f a)
+pub plain-five : (f : Format) (a : Asked) → usedFinite a ≡ true → NotFive (plainOf f a)
 unfolding answeredBy
-work-five f a h =
+plain-five f a h =
     let nine = a .nine in
     let three = a .three in
     each-kind (λ (k : Kind). Used a k → NotFive (answeredBy f (k .kernel) a)) (λ _ c. omega arith)

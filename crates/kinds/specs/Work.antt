@@ -1,5 +1,5 @@
--- What each kind answers: the one place that hands numbers to a kernel and takes its values back. `Asked` is what a request asks: its kind, its way
--- and its numbers. `Worked` is a kernel's answer as a record has it: three values, nine numbers left and nine right. Definitions only.
+-- What each kind answers to its numbers as they are: the one place that hands numbers to a kernel and takes its values back. `Asked` is what a request asks:
+-- its kind, its way and its numbers. `Worked` is a kernel's answer as a record has it: three values, nine numbers left and nine right. Definitions only.
 use mathlib.Core.Bool.{Bool, _&&_}
 use mathlib.Core.List.{List}
 use Prim.Native.Nat.{ℕ}
@@ -123,5 +123,5 @@ answeredBy f Solve2x2 a = fromSolved f 3 2 (factorAndSolve2Of f (firstOf 3 (a .n
 answeredBy f Solve3x3 a = fromSolved f 6 3 (factorAndSolve3Of f (firstOf 6 (a .nine)) (firstOf 3 (a .three)))
 answeredBy f Unknown a = refusedKind f 3 0
 
-abbrev pub workOf : Format → Asked → Worked
-workOf f a = answeredBy f (kindNumbered (a .kind) .kernel) a
+abbrev pub plainOf : Format → Asked → Worked
+plainOf f a = answeredBy f (kindNumbered (a .kind) .kernel) a

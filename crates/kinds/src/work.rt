@@ -27,7 +27,7 @@ ghost use Rattle.matrix.specs.Symmetric.{sym2, sym3};
 ghost use Rattle.cholesky.specs.Factor.{ofFactor2, ofFactor3};
 ghost use Rattle.cholesky.specs.Solve.{ofSolved2, ofSolved3};
 ghost use Rattle.kinds.specs.Work.{firstOf, padded, doneMark, refusedKind, fromEigen2, fromEigen3, fromSvd2, fromSvd3, wholeFactor, fromFactor};
-ghost use Rattle.kinds.specs.Work.{fromSolved, answeredBy, workOf};
+ghost use Rattle.kinds.specs.Work.{fromSolved, answeredBy, plainOf};
 
 // What a request asks: its kind, its way, and its numbers.
 pub struct Asked {
@@ -285,9 +285,9 @@ fn answered_by(kernel: Kernel, a: Asked) -> Worked
     }
 }
 
-// The answer of a kind; 3 for one that no row of the table has.
-pub fn work(a: Asked) -> Worked
-    ensures { λ w. ⌜ w ≡ workOf F a ⌝ }
+// The answer of a kind to its numbers as they are; 3 for one that no row of the table has.
+pub(crate) fn plain(a: Asked) -> Worked
+    ensures { λ w. ⌜ w ≡ plainOf F a ⌝ }
 {
     let k = kind_numbered(a.kind);
     let kernel = k.kernel;

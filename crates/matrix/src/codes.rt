@@ -12,7 +12,7 @@ pub const OUTPUT_LENGTH: u8 = 2;
 // A kind that is none.
 pub const UNKNOWN_KIND: u8 = 3;
 
-// A reserved byte or an unused number that is not all zero bits.
+// A way that the kind does not have, or a reserved byte or an unused number that is not all zero bits.
 pub const RESERVED: u8 = 4;
 
 // A used input number is NaN or infinite.

@@ -9,7 +9,7 @@ use crate::of_svd;
 pub(crate) fn known(op: u64) -> bool {
     let n = op % 16;
     match op / 16 {
-        0 => 0 < n && n < 9,
+        0 => 0 < n && n < 12,
         1 => n < 13,
         2 => n < 7,
         3 => n < 12,

@@ -33,6 +33,14 @@ pub(crate) fn of_signed(x: i64) -> u64 {
     x as u64
 }
 
+// The number with this two's complement pattern.
+pub(crate) fn to_signed(x: u64) -> i64 {
+    if x < 0x8000_0000_0000_0000 {
+        return x as i64;
+    }
+    -1 - ((u64::MAX - x) as i64)
+}
+
 // An answer that begins with a code.
 pub(crate) fn coded(code: u8) -> [u64; 64] {
     begin(code as u64, 0, 0)

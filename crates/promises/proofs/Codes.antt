@@ -1,5 +1,5 @@
 -- The record step asks the rows one after the other, in the table's order, and its tests decide their conditions.
-use Rattle.float.proofs.Words.{_≡_, refl, Bool, true, false, not, _&&_, List, ℕ, eqb, length, drop, Format}
+use Rattle.float.proofs.Words.{_≡_, refl, Bool, true, false, not, List, ℕ, eqb, length, drop, Format}
 use contract.Lifetimes.{Lfts}
 use Rattle.float.specs.Width.{F}
 use Rattle.float.specs.Choice.{pick}
@@ -8,17 +8,18 @@ use Rattle.matrix.specs.Rows.{on, Gives, WrongLength, NotFinite}
 use Rattle.matrix.proofs.Rows.{Decides, first-row, by-length}
 use Rattle.cholesky.specs.Pivots.{pivotCode}
 use Rattle.cholesky.proofs.Rows.{later-rows}
-use Rattle.kinds.specs.Table.{kindNumbered, knownKind}
-use Rattle.kinds.specs.Work.{refusedKind, usedFinite, workOf}
+use Rattle.kinds.specs.Table.{knownKind}
+use Rattle.kinds.specs.Work.{refusedKind, usedFinite}
+use Rattle.kinds.specs.Ways.{workOf}
 use Rattle.kinds.specs.declared.work.Worked.{Worked}
 use Rattle.record.specs.Layout.{requestSize, answerSize}
-use Rattle.record.specs.Request.{kindOf, askedOf, reservedZero, unusedZero, formOf, judgedOf}
+use Rattle.record.specs.Request.{kindOf, askedOf, restRight, formOf, judgedOf}
 use Rattle.record.specs.Answer.{Step, recordStepOf}
 use Rattle.record.proofs.answer.zanikory_answer_record.Reads as answer-record
 use Rattle.promises.specs.Scope.{requestLength, answerLength, kindIn}
-use Rattle.promises.specs.Conditions.{NoKind, NotZero, usedIn, pivotsIn, madeIn, rows}
+use Rattle.promises.specs.Conditions.{NoKind, NotAsItIsToBe, usedIn, pivotsIn, madeIn, rows}
 use Rattle.promises.proofs.Scope.{request-length, answer-length, pivots-in, made-in}
-use Rattle.promises.proofs.Decided.{by-kind, by-zeros, by-used}
+use Rattle.promises.proofs.Decided.{by-kind, by-rest, by-used}
 use Rattle.promises.proofs.Kernels.{kind-code}
 
 -- the tests of 3, 4 and 5, and then the kind's answer w
@@ -37,18 +38,15 @@ sized x y z true false = refl
 sized x y z false u = refl
 
 module _ (f : Format) (s a : List ℕ) where
-  abbrev zero : Bool
-  zero = reservedZero s && unusedZero f (kindNumbered (kindOf s)) s
-
   abbrev later : ℕ
   later = pivotCode f (pivotsIn f s) (pick (allFinite (madeIn f s)) 0 7)
 
   later-code : knownKind (kindOf s) ≡ true → usedFinite (askedOf f s) ≡ true → workOf f (askedOf f s) .code ≡ later
   later-code = rw (pivots-in f s, made-in f s) (kind-code f (askedOf f s))
 
-  pub judged-code : judgedOf f s .code ≡ pick (not (knownKind (kindOf s))) 3 (pick (not zero) 4 (pick (not (usedFinite (askedOf f s))) 5 later))
+  pub judged-code : judgedOf f s .code ≡ pick (not (knownKind (kindOf s))) 3 (pick (not (restRight f s)) 4 (pick (not (usedFinite (askedOf f s))) 5 later))
   unfolding judgedOf formOf
-  judged-code = asked f (workOf f (askedOf f s)) later (knownKind (kindOf s)) zero (usedFinite (askedOf f s)) later-code
+  judged-code = asked f (workOf f (askedOf f s)) later (knownKind (kindOf s)) (restRight f s) (usedFinite (askedOf f s)) later-code
 
   step-code : recordStepOf f s a .code
       ≡ pick (not (eqb (length a) (answerSize f))) 2 (pick (not (eqb (length s) (requestSize f))) 1 (judgedOf f s .code))
@@ -63,14 +61,14 @@ module _ (f : Format) (s a : List ℕ) where
   codes =
       let r = rows f s a in
       let c5 = pick (not (usedFinite (askedOf f s))) 5 later in
-      let c4 = pick (not zero) 4 c5 in
+      let c4 = pick (not (restRight f s)) 4 c5 in
       let c3 = pick (not (knownKind (kindOf s))) 3 c4 in
       let c1 = pick (not (eqb (length s) (requestSize f))) 1 c3 in
       rw (step-code, judged-code)
       (first-row (not (eqb (length a) (answerSize f))) (on 2 (WrongLength a (answerLength f))) (drop 1 r) c1 (by-size a _ _ (answer-length f))
       (first-row (not (eqb (length s) (requestSize f))) (on 1 (WrongLength s (requestLength f))) (drop 2 r) c3 (by-size s _ _ (request-length f))
       (first-row (not (knownKind (kindOf s))) (on 3 (NoKind (kindIn s))) (drop 3 r) c4 (by-kind (kindOf s))
-      (first-row (not zero) (on 4 (NotZero f s)) (drop 4 r) c5 (by-zeros f s)
+      (first-row (not (restRight f s)) (on 4 (NotAsItIsToBe f s)) (drop 4 r) c5 (by-rest f s)
       (first-row (not (usedFinite (askedOf f s))) (on 5 (NotFinite (usedIn f s))) (drop 5 r) later (by-used f s)
       (later-rows f (pivotsIn f s) (madeIn f s)))))))
 

@@ -1,6 +1,6 @@
 -- Every answer has a head that a tally knows: its code is one of the rows', and with code 0 its kind is known, its mark is 1 or 0, and its count is that of a
 -- run, at most 25, or 0.
-use Rattle.float.proofs.Words.{_≡_, refl, sym, ap, _∙_, subst, true, false, not, _&&_, true≢false, false≢true, List, [], ℕ, _≤_, arith, zero, suc}
+use Rattle.float.proofs.Words.{_≡_, refl, sym, ap, _∙_, subst, true, false, not, true≢false, false≢true, List, [], ℕ, _≤_, arith, zero, suc}
 use Rattle.float.proofs.Words.{_+_, _*_, mul-suc, zero-div, eqb, length, getD, take}
 use Rattle.float.proofs.Words.{replicate, length-take, length-drop, length-take-le, Format, eq-eqb, ne-eqb, le-leb}
 use native.Mathlib.Nat.{mul-mod-right}
@@ -15,14 +15,15 @@ use Rattle.cholesky.proofs.Stops.{unstopped}
 use Rattle.eigen.proofs.Counted as eigen
 use Rattle.svd.proofs.Counted as svd
 use Rattle.kinds.specs.Table.{kindNumbered, knownKind}
-use Rattle.kinds.specs.Work.{firstOf, refusedKind, usedFinite, answeredBy, workOf}
+use Rattle.kinds.specs.Work.{firstOf, refusedKind, usedFinite, answeredBy, plainOf}
+use Rattle.kinds.specs.Ways.{powerFor, divided, workOf}
 use Rattle.kinds.specs.declared.table.Kind.{Kind}
 use Rattle.kinds.specs.declared.work.Asked.{Asked}
 use Rattle.kinds.specs.declared.work.Worked.{Worked}
 use Rattle.kinds.proofs.Rows.{each-kind}
-use Rattle.kinds.proofs.Works.{work-uncounted, work-mark}
+use Rattle.kinds.proofs.BothWays.{by-back, by-way, work-uncounted, work-mark}
 use Rattle.record.specs.Layout.{eventBytes, requestSize, answerSize}
-use Rattle.record.specs.Request.{kindOf, askedOf, reservedZero, unusedZero, formOf, judgedOf}
+use Rattle.record.specs.Request.{kindOf, askedOf, restRight, formOf, judgedOf}
 use Rattle.record.specs.Answer.{recordOf, wrongSizeOf, answeredOf, recordStepOf}
 use Rattle.record.specs.Stream.{requestOf, answersOf}
 use Rattle.record.proofs.Answers.{with-room, wrong-size, answer-size, head-byte, answers-size}
@@ -52,9 +53,9 @@ uncounted : {X : Type 0} → false ≡ true → X
 uncounted q = absurd (false≢true q)
 
 -- of a run
-work-turned : (f : Format) (a : Asked) → kindNumbered (a .kind) .counts ≡ true → workOf f a .code ≡ 0 → workOf f a .count ≤ mostTurns
+plain-turned : (f : Format) (a : Asked) → kindNumbered (a .kind) .counts ≡ true → plainOf f a .code ≡ 0 → plainOf f a .count ≤ mostTurns
 unfolding answeredBy
-work-turned f a =
+plain-turned f a =
     each-kind (λ (k : Kind). k .counts ≡ true → answeredBy f (k .kernel) a .code ≡ 0 → answeredBy f (k .kernel) a .count ≤ mostTurns) uncounted
     uncounted
     (λ _ c. eigen.counted f (firstOf 6 (a .nine)) c .ran .within)
@@ -65,6 +66,12 @@ work-turned f a =
     uncounted
     uncounted
     (a .kind)
+
+work-turned : (f : Format) (a : Asked) → kindNumbered (a .kind) .counts ≡ true → workOf f a .code ≡ 0 → workOf f a .count ≤ mostTurns
+work-turned f a q =
+    let P : Worked → Type 0 = λ (w : Worked). w .code ≡ 0 → w .count ≤ mostTurns in
+    let b = divided f (powerFor f a) a in
+    by-way f a P (λ _. by-back f (powerFor f a) (plainOf f b) P (λ _. plain-turned f b q) (λ _ c. absurd (omega arith))) (λ _. plain-turned f a q)
 
 -- of a kind that makes none
 work-unturned : (f : Format) (a : Asked) → kindNumbered (a .kind) .counts ≡ false → workOf f a .code ≡ 0 → workOf f a .count ≤ 0
@@ -92,7 +99,7 @@ module _ (f : Format) (s : List ℕ) where
   judged-among =
       rw (judged-code f s [])
       (chosen InCodes (not (knownKind (kindOf s))) 3 _ refl
-      (chosen InCodes (not (reservedZero s && unusedZero f (kindNumbered (kindOf s)) s)) 4 _ refl
+      (chosen InCodes (not (restRight f s)) 4 _ refl
       (chosen InCodes (not (usedFinite (askedOf f s))) 5 _ refl
       (chosen InCodes (oneAtMostZero f (pivotsIn f s)) 6 _ refl
       (chosen InCodes (oneNan (pivotsIn f s)) 9 _ refl (chosen InCodes (allFinite (madeIn f s)) 0 7 refl refl))))))

@@ -1,14 +1,15 @@
 -- The tests of the code decide the conditions of rows 3, 4 and 5, which are the scope's own: number by number and byte by byte.
-use Rattle.float.proofs.Words.{_≡_, false, not, _&&_, List, _⊎_, inl, inr, ⊎-elim, ℕ, _≤_, arith, getD, Format}
+use Rattle.float.proofs.Words.{_≡_, refl, Bool, true, false, not, _&&_, List, _⊎_, inl, inr, ⊎-elim, ℕ, _≤_, arith, leb, getD, Format, leb-true, le-leb}
+use Rattle.float.specs.Choice.{pick}
 use Rattle.float.proofs.Finite.{both-true}
 use Rattle.matrix.specs.Rows.{NotFinite}
 use Rattle.matrix.proofs.Rows.{Decides, decided, denied, by-not, by-finite}
-use Rattle.kinds.specs.Table.{kindNumbered, knownKind}
+use Rattle.kinds.specs.Table.{kindNumbered, knownKind, knownWay}
 use Rattle.kinds.specs.Work.{usedFinite}
 use Rattle.wire.specs.Bytes.{zeroFrom}
 use Rattle.wire.proofs.Zeros.{zero-at, zero-all}
-use Rattle.record.specs.Request.{kindOf, askedOf, reservedZero, unusedZero}
-use Rattle.promises.specs.Conditions.{NoKind, Between, NotZero, usedIn}
+use Rattle.record.specs.Request.{kindOf, wayOf, askedOf, reservedZero, unusedZero, restRight}
+use Rattle.promises.specs.Conditions.{NoKind, HasWay, Between, Zeros, NotAsItIsToBe, usedIn}
 use Rattle.promises.proofs.Scope.{number-length, request-length, three-begin, each-number, past-eight, in-table, used-finite}
 
 -- ---- 3
@@ -35,10 +36,24 @@ zero-ranges a b c d e g s =
     ⊎-elim (zero-at a b s (r .0) i) (⊎-elim (zero-at c d s (u .0) i) (zero-at e g s (u .1) i)))
     (λ h. rw (zero-all a b s (λ i w. h i (inl w)), zero-all c d s (λ i w. h i (inr (inl w))), zero-all e g s (λ i w. h i (inr (inr w)))))
 
-pub by-zeros : (f : Format) (s : List ℕ) → Decides (not (reservedZero s && unusedZero f (kindNumbered (kindOf s)) s)) (NotZero f s)
+by-zeros : (f : Format) (s : List ℕ) → Decides (not (reservedZero s && unusedZero f (kindNumbered (kindOf s)) s)) (Zeros f s → ⊥)
 by-zeros f s =
     let t = in-table (kindOf s) in
-    rw (number-length f, three-begin f, request-length f, t .0, t .1) (zero-ranges 5 8 _ _ _ _ s)
+    rw (number-length f, three-begin f, request-length f, t .0, t .1) (zero-ranges 6 8 _ _ _ _ s)
+
+by-ways : (s : List ℕ) → Decides (not (knownWay (kindOf s) (wayOf s))) (HasWay s → ⊥)
+by-ways s =
+    rw (in-table (kindOf s) .3)
+    (by-not (leb (wayOf s) (pick (kindNumbered (kindOf s) .scales) 1 0)) (wayOf s ≤ pick (kindNumbered (kindOf s) .scales) 1 0) (leb-true _ _) (le-leb _ _))
+
+-- two tests, each of which decides its condition, decide both
+by-both : {X Y : Type 0} (t u : Bool) → Decides (not t) (X → ⊥) → Decides (not u) (Y → ⊥) → Decides (not (t && u)) (X × Y → ⊥)
+by-both true true d e = denied (λ n. d .1 refl (λ x. e .1 refl (λ y. n (x, y))))
+by-both true false d e = decided (λ b. e .0 refl (b .1))
+by-both false u d e = decided (λ b. d .0 refl (b .0))
+
+pub by-rest : (f : Format) (s : List ℕ) → Decides (not (restRight f s)) (NotAsItIsToBe f s)
+by-rest f s = by-both (knownWay (kindOf s) (wayOf s)) (reservedZero s && unusedZero f (kindNumbered (kindOf s)) s) (by-ways s) (by-zeros f s)
 
 -- ---- 5
 

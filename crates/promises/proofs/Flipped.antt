@@ -1,21 +1,22 @@
 -- A request with signs flipped says the same of its form, and its numbers are the negated ones. So its answer is to the other what the kernel's answers to a
 -- matrix and to its negation are to each other, whatever that is.
-use Rattle.float.proofs.Words.{_≡_, refl, sym, ap, _∙_, subst⁻¹, Bool, true, _&&_, List, [], _∷_, _++_, ℕ, zero, suc, _+_, _-_, _*_, _≤_, _<_, mul-zero}
-use Rattle.float.proofs.Words.{mul-suc, mul-le-mul-left, arith, eqb, length, getD, take, drop, length-append, length-take, length-drop, take-all, take-suc}
-use Rattle.float.proofs.Words.{take-append-seam, drop-append-add, drop-drop, length-take-le, Float, Format, binary32, binary64, neg, ofBits, eqb-false}
-use Rattle.float.specs.Choice.{pick}
+use Rattle.float.proofs.Words.{_≡_, refl, sym, ap, _∙_, and-true, List, [], _∷_, _++_, ℕ, zero, suc, _+_, _-_, _*_, _≤_, _<_, mul-zero}
+use Rattle.float.proofs.Words.{mul-suc, mul-le-mul-left, arith, length, getD, take, drop, length-append, length-take, length-drop, take-all, take-suc}
+use Rattle.float.proofs.Words.{take-append-seam, drop-append-add, drop-drop, length-take-le, Float, Format, binary32, binary64, neg, ofBits, take-at}
 use Rattle.float.specs.Sign.{allFinite}
-use Rattle.float.proofs.Choice.{both-chosen}
 use Rattle.matrix.specs.Places.{at, tabulate, negatedOf}
 use Rattle.matrix.proofs.Tables.{at-tabulate, tabulate-same, first-tabulate, negated-finite, length-tabulate}
-use Rattle.kinds.specs.Table.{kindNumbered, knownKind}
-use Rattle.kinds.specs.Work.{firstOf, refusedKind, usedFinite, workOf}
+use Rattle.kinds.specs.Table.{kindNumbered}
+use Rattle.kinds.specs.Work.{firstOf, refusedKind, usedFinite}
+use Rattle.kinds.specs.Ways.{workOf}
+use Rattle.kinds.specs.declared.table.Kind.{Kind}
 use Rattle.kinds.specs.declared.work.Worked.{Worked}
-use Rattle.wire.specs.Bytes.{numberBytes, placeOf, wordOf, part, numberAt, allZero, zeroFrom}
+use Rattle.wire.specs.Bytes.{numberBytes, placeOf, wordOf, part, numberAt}
 use Rattle.wire.proofs.Words.{word-below}
-use Rattle.record.specs.Layout.{nineAt, threeAt, requestSize}
-use Rattle.record.specs.Request.{kindOf, askedOf, reservedZero, formOf, judgedOf}
+use Rattle.record.specs.Layout.{nineAt, requestSize}
+use Rattle.record.specs.Request.{kindOf, wayOf, askedOf, judgedOf}
 use Rattle.promises.specs.Wiring.{flippedNumber, flippedNumbers, flippedFirst, Bytes}
+use Rattle.promises.proofs.Bodies.{kind-same, way-same, kept}
 use Rattle.promises.proofs.Signs.{number-flipped}
 
 -- ---- one number
@@ -115,101 +116,67 @@ module _ (f : Format) where
       let same = same-length n (drop nineAt s) (omega arith) in
       rw length-append (omega arith)
 
+  -- what lies behind the head
+  flipped-body : (n : ℕ) (s : List ℕ) → nineAt ≤ length s → (m : ℕ) → drop (nineAt + m) (flippedFirst f n s) ≡ drop m (flippedNumbers f n (drop nineAt s))
+  flipped-body n s h m =
+      let body = flippedNumbers f n (drop nineAt s) in
+      ap (λ (k : ℕ). drop (k + m) (flippedFirst f n s)) (sym (length-take-le nineAt s h)) ∙ drop-append-add (take nineAt s) body m
+
 -- ---- the kind uses the first n of the nine numbers and none of the three. R is kept by a refusal, and by the kernel from a matrix to its negation.
 
 module _ (f : Format) (kind n : ℕ) (nine : kindNumbered kind .nine ≡ n) (three : kindNumbered kind .three ≡ 0) (most : n ≤ 9) (R : Worked → Worked → Type 0)
     (refused : (k : ℕ) → (k ≡ 0 → ⊥) → R (refusedKind f k 0) (refusedKind f k 0))
     (worked : (way : ℕ) (x y p q : List Float) → firstOf n y ≡ negatedOf n (firstOf n x)
     → R (workOf f (record { kind = kind; way = way; nine = x; three = p })) (workOf f (record { kind = kind; way = way; nine = y; three = q }))) where
-  within : width f * n ≤ width f * 9
-  within = mul-le-mul-left (width f) most
-
-  -- a request whose first eight bytes are written out
-  module _ (a0 a1 a2 a3 a5 a6 a7 : ℕ) (body : List ℕ) (size : length body ≡ width f * 12) (bytes : Bytes body) where
-    abbrev request : List ℕ → List ℕ
-    request b = a0 ∷ a1 ∷ a2 ∷ a3 ∷ kind ∷ a5 ∷ a6 ∷ a7 ∷ b
-
+  module _ (s : List ℕ) (size : length s ≡ requestSize f) (bytes : Bytes s) where
     abbrev other : List ℕ
-    other = flippedNumbers f n body
+    other = flippedFirst f n s
 
-    in-body : (b : List ℕ) (m : ℕ) → drop (nineAt + m) (request b) ≡ drop m b
-    in-body b m = sym (drop-drop m nineAt (request b))
+    within : width f * n ≤ width f * 9
+    within = mul-le-mul-left (width f) most
 
-    same-behind : (m : ℕ) → width f * n ≤ m → drop (nineAt + m) (request other) ≡ drop (nineAt + m) (request body)
-    same-behind m h =
-        let q : m ≡ width f * n + (m - width f * n) = omega arith in
-        let behind : (b : List ℕ) → drop (nineAt + m) (request b) ≡ drop (m - width f * n) (drop (width f * n) b) =
-        λ (b : List ℕ). in-body b m ∙ ap (λ (k : ℕ). drop k b) q ∙ sym (drop-drop (m - width f * n) (width f * n) b) in
-        behind other ∙ ap (drop (m - width f * n)) (rest-same f n body (omega (arith, within))) ∙ sym (behind body)
+    body-size : length (drop nineAt s) ≡ width f * 12
+    body-size = let l = length-drop nineAt s in omega arith
 
     abbrev numberIn : List ℕ → ℕ → Float
-    numberIn b i = numberAt f (placeOf f nineAt i) (request b)
+    numberIn r i = numberAt f (placeOf f nineAt i) r
 
-    number-negated : (i : ℕ) → i < n → numberIn other i ≡ neg (numberIn body i)
+    number-negated : (i : ℕ) → i < n → numberIn other i ≡ neg (numberIn s i)
     number-negated i l =
-        ap (λ (y : List ℕ). ofBits f (wordOf (take (width f) y))) (in-body other (width f * i))
-        ∙ numbers-flipped f n body (omega (arith, within)) bytes i l
-        ∙ ap (λ (y : List ℕ). neg (ofBits f (wordOf (take (width f) y)))) (sym (in-body body (width f * i)))
+        ap (λ (y : List ℕ). ofBits f (wordOf (take (width f) y))) (flipped-body f n s (omega arith) (width f * i))
+        ∙ numbers-flipped f n (drop nineAt s) (omega (arith, within, body-size)) (bytes-drop nineAt s bytes) i l
+        ∙ ap (λ (y : List ℕ). neg (ofBits f (wordOf (take (width f) y)))) (drop-drop (width f * i) nineAt s)
 
-    table-negated : tabulate n (numberIn other) ≡ negatedOf n (tabulate n (numberIn body))
-    table-negated =
-        tabulate-same n (numberIn other) (λ (i : ℕ). neg (at (tabulate n (numberIn body)) i))
-        (λ i l. number-negated i l ∙ ap neg (sym (at-tabulate n (numberIn body) i l)))
-
-    firsts-negated : firstOf n (tabulate 9 (numberIn other)) ≡ negatedOf n (firstOf n (tabulate 9 (numberIn body)))
+    firsts-negated : firstOf n (tabulate 9 (numberIn other)) ≡ negatedOf n (firstOf n (tabulate 9 (numberIn s)))
     firsts-negated =
-        first-tabulate n 9 (numberIn other) most ∙ table-negated ∙ ap (negatedOf n) (sym (first-tabulate n 9 (numberIn body) most))
+        first-tabulate n 9 (numberIn other) most
+        ∙ tabulate-same n (numberIn other) (λ (i : ℕ). neg (at (tabulate n (numberIn s)) i))
+        (λ i l. number-negated i l ∙ ap neg (sym (at-tabulate n (numberIn s) i l)))
+        ∙ ap (negatedOf n) (sym (first-tabulate n 9 (numberIn s) most))
 
-    same-form : formOf f (request other) ≡ formOf f (request body)
-    unfolding formOf
-    same-form =
-        let unused = zeroFrom (placeOf f nineAt n) (threeAt f) (request body) in
-        ap (λ (t : Bool). pick (knownKind kind) (pick (reservedZero (request body) && t) 0 4) 3)
-        (rw (nine, three)
-        (ap (λ (y : List ℕ). allZero (take (threeAt f - placeOf f nineAt n) y) && zeroFrom (placeOf f (threeAt f) 0) (requestSize f) (request other))
-        (same-behind (width f * n) (omega arith))
-        ∙ ap (λ (y : List ℕ). unused && allZero (take (requestSize f - placeOf f (threeAt f) 0) y)) three-same))
-      where
-        three-same : drop (placeOf f (threeAt f) 0) (request other) ≡ drop (placeOf f (threeAt f) 0) (request body)
-        three-same =
-            let q : placeOf f (threeAt f) 0 ≡ nineAt + (width f * 9 + width f * 0) = omega arith in
-            ap (λ (k : ℕ). drop k (request other)) q ∙ same-behind (width f * 9 + width f * 0) (omega (arith, within))
-            ∙ ap (λ (k : ℕ). drop k (request body)) (sym q)
+    same-head : take nineAt other ≡ take nineAt s
+    same-head = take-at (take nineAt s) (flippedNumbers f n (drop nineAt s)) nineAt (length-take-le nineAt s (omega arith))
 
-    same-used : usedFinite (askedOf f (request other)) ≡ usedFinite (askedOf f (request body))
+    same-rest : drop (placeOf f nineAt n) other ≡ drop (placeOf f nineAt n) s
+    same-rest =
+        flipped-body f n s (omega arith) (width f * n) ∙ rest-same f n (drop nineAt s) (omega (arith, within, body-size))
+        ∙ drop-drop (width f * n) nineAt s
+
+    -- the finite test of the used numbers
+    used-is : (r : List ℕ) → kindOf r ≡ kind → usedFinite (askedOf f r) ≡ allFinite (firstOf n (tabulate 9 (numberIn r)))
     unfolding allFinite
-    same-used =
-        let numbers = tabulate 9 (numberIn body) in
-        rw (nine, three)
-        (ap (λ (t : Bool). t && true)
-        (ap allFinite firsts-negated ∙ sym (negated-finite n (firstOf n numbers) (length-tabulate n (at numbers)))))
+    used-is r e = rw (e, nine, three) (and-true _)
 
-    -- the same tests on both sides, so the same side of each choice is taken
-    judged-kept : R (judgedOf f (request body)) (judgedOf f (request other))
-    unfolding judgedOf
-    judged-kept =
-        let k = formOf f (request body) in
-        rw (same-form, same-used)
-        (both-chosen R (eqb k 0) _ _ _ _
-        (λ _. both-chosen R (usedFinite (askedOf f (request body))) _ _ _ _
-        (λ _. worked a5 (tabulate 9 (numberIn body)) (tabulate 9 (numberIn other)) _ _ firsts-negated) (λ _. refused 5 (λ e. absurd (omega arith))))
-        (λ e. refused k (eqb-false k 0 e)))
-
-  pub flipped-kept : (s : List ℕ) → length s ≡ requestSize f → kindOf s ≡ kind → Bytes s → R (judgedOf f s) (judgedOf f (flippedFirst f n s))
-  flipped-kept s h k b =
-      let body = drop nineAt s in
-      let rest = length-drop nineAt s in
-      subst⁻¹ (λ (z : List ℕ). R (judgedOf f z) (judgedOf f (flippedFirst f n z))) (eight s (omega arith) k)
-      (judged-kept (getD s 0 0) (getD s 1 0) (getD s 2 0) (getD s 3 0) (getD s 5 0) (getD s 6 0) (getD s 7 0) body (omega arith) (bytes-drop nineAt s b))
-    where
-      eight : (s : List ℕ) → 8 ≤ length s → kindOf s ≡ kind
-          → s ≡ getD s 0 0 ∷ getD s 1 0 ∷ getD s 2 0 ∷ getD s 3 0 ∷ kind ∷ getD s 5 0 ∷ getD s 6 0 ∷ getD s 7 0 ∷ drop nineAt s
-      eight [] h k = absurd (omega arith)
-      eight (a0 ∷ []) h k = absurd (omega arith)
-      eight (a0 ∷ a1 ∷ []) h k = absurd (omega arith)
-      eight (a0 ∷ a1 ∷ a2 ∷ []) h k = absurd (omega arith)
-      eight (a0 ∷ a1 ∷ a2 ∷ a3 ∷ []) h k = absurd (omega arith)
-      eight (a0 ∷ a1 ∷ a2 ∷ a3 ∷ a4 ∷ []) h k = absurd (omega arith)
-      eight (a0 ∷ a1 ∷ a2 ∷ a3 ∷ a4 ∷ a5 ∷ []) h k = absurd (omega arith)
-      eight (a0 ∷ a1 ∷ a2 ∷ a3 ∷ a4 ∷ a5 ∷ a6 ∷ []) h k = absurd (omega arith)
-      eight (a0 ∷ a1 ∷ a2 ∷ a3 ∷ a4 ∷ a5 ∷ a6 ∷ a7 ∷ body) h k = ap (λ (i : ℕ). a0 ∷ a1 ∷ a2 ∷ a3 ∷ i ∷ a5 ∷ a6 ∷ a7 ∷ body) k
+    pub flipped-kept : kindOf s ≡ kind → R (judgedOf f s) (judgedOf f other)
+    flipped-kept k =
+        let rows : kindNumbered (kindOf s) ≡ kindNumbered kind = ap kindNumbered k in
+        let size' = flipped-size f n s most size in
+        let nine' : kindNumbered (kindOf s) .nine ≡ n = ap (λ (r : Kind). r .nine) rows ∙ nine in
+        let three' : kindNumbered (kindOf s) .three ≡ 0 = ap (λ (r : Kind). r .three) rows ∙ three in
+        let k' : kindOf other ≡ kind = kind-same f s other n nine' three' most size size' same-head same-rest ∙ k in
+        let w' : wayOf other ≡ wayOf s = way-same f s other n nine' three' most size size' same-head same-rest in
+        let numbers = firstOf n (tabulate 9 (numberIn s)) in
+        kept f s other n nine' three' most size size' same-head same-rest R refused
+        (used-is other k' ∙ ap allFinite firsts-negated ∙ sym (negated-finite n numbers (length-tabulate n _)) ∙ sym (used-is s k))
+        (λ _. rw (k, k', w')
+        (worked (wayOf s) (tabulate 9 (numberIn s)) (tabulate 9 (numberIn other)) _ _ firsts-negated))

@@ -1,5 +1,5 @@
 -- What is left is the slice as it was, the answer to a request of the wrong size, or the answer to a request: each is looked at byte by byte.
-use Rattle.float.proofs.Words.{_≡_, refl, sym, ap, _∙_, subst, not, _&&_, List, [], _∷_, _++_, append-assoc, ℕ, zero, suc, _≤_, arith, eqb, length}
+use Rattle.float.proofs.Words.{_≡_, refl, sym, ap, _∙_, subst, not, List, [], _∷_, _++_, append-assoc, ℕ, zero, suc, _≤_, arith, eqb, length}
 use Rattle.float.proofs.Words.{getD, take, drop, replicate, length-append, take-append-drop, length-take-le, take-suc, take-at, drop-cons, getD-drop, Format}
 use contract.Lifetimes.{Lfts}
 use Rattle.float.specs.Width.{F}
@@ -8,12 +8,14 @@ use Rattle.float.specs.Exactly.{Exactly}
 use Rattle.float.specs.Sign.{allFinite}
 use Rattle.float.proofs.Choice.{chosen, whether}
 use Rattle.kinds.specs.Table.{kindNumbered, knownKind}
-use Rattle.kinds.specs.Work.{refusedKind, usedFinite, workOf}
+use Rattle.kinds.specs.Work.{refusedKind, usedFinite}
+use Rattle.kinds.specs.Ways.{workOf}
 use Rattle.kinds.specs.declared.work.Worked.{Worked}
-use Rattle.kinds.proofs.Works.{Uncounted, work-uncounted}
+use Rattle.kinds.proofs.Works.{Uncounted}
+use Rattle.kinds.proofs.BothWays.{work-uncounted}
 use Rattle.wire.specs.Bytes.{numberBytesOf}
 use Rattle.record.specs.Layout.{eventBytes, requestSize, codeAt, countAt, markAt, answerSize}
-use Rattle.record.specs.Request.{kindOf, askedOf, reservedZero, unusedZero, formOf, judgedOf}
+use Rattle.record.specs.Request.{kindOf, askedOf, restRight, formOf, judgedOf}
 use Rattle.record.specs.Answer.{recordOf, Step, recordStepOf}
 use Rattle.record.proofs.Answers.{with-room, wrong-size, no-room, answer-size, head-byte, code-in-place, refused-unmarked, refused-clear}
 use Rattle.record.proofs.answer.zanikory_answer_record.Reads as answer-record
@@ -50,7 +52,7 @@ module _ (f : Format) (s : List ℕ) where
   judged-past-sizes =
       rw (judged-code f s [])
       (chosen PastSizes (not (knownKind (kindOf s))) 3 _ ((λ e. omega arith), (λ e. omega arith))
-      (chosen PastSizes (not (reservedZero s && unusedZero f (kindNumbered (kindOf s)) s)) 4 _ ((λ e. omega arith), (λ e. omega arith))
+      (chosen PastSizes (not (restRight f s)) 4 _ ((λ e. omega arith), (λ e. omega arith))
       (chosen PastSizes (not (usedFinite (askedOf f s))) 5 _ ((λ e. omega arith), (λ e. omega arith))
       (chosen PastSizes (oneAtMostZero f (pivotsIn f s)) 6 _ ((λ e. omega arith), (λ e. omega arith))
       (chosen PastSizes (oneNan (pivotsIn f s)) 9 _ ((λ e. omega arith), (λ e. omega arith))

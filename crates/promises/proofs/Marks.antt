@@ -14,15 +14,16 @@ use Rattle.svd.proofs.Settled as svdMark
 use Rattle.cholesky.specs.Factor.{FactorAnswer}
 use Rattle.jacobi.specs.Blind.{markOf}
 use Rattle.kinds.specs.Table.{kindNumbered}
-use Rattle.kinds.specs.Work.{firstOf, doneMark, refusedKind, fromFactor, usedFinite, answeredBy, workOf}
+use Rattle.kinds.specs.Work.{firstOf, doneMark, refusedKind, fromFactor, usedFinite, answeredBy, plainOf}
+use Rattle.kinds.specs.Ways.{powerFor, divided, workedOn, workOf}
 use Rattle.kinds.specs.declared.table.Kind.{Kind}
 use Rattle.kinds.specs.declared.work.Asked.{Asked}
 use Rattle.kinds.specs.declared.work.Worked.{Worked}
 use Rattle.kinds.proofs.Rows.{each-kind}
-use Rattle.kinds.proofs.Works.{work-mark}
+use Rattle.kinds.proofs.BothWays.{by-back, by-way, work-mark}
 use Rattle.record.specs.Request.{kindOf, askedOf, formOf, judgedOf}
 use Rattle.promises.specs.Marks.{MarkOwed, MarkIn}
-use Rattle.promises.proofs.Scope.{in-table, given-asked}
+use Rattle.promises.proofs.Scope.{in-table, worked-in}
 
 -- ---- a kind's answer
 
@@ -39,9 +40,9 @@ unfolding fromFactor
 factor-owed f s r =
     by-eqb (λ (w : Worked). w .code ≡ 0 → Exactly (w .settled ≡ 1) (Unit {0})) (r .code) 0 _ _ (λ _ _. always refl) (λ n c. absurd (n c))
 
-work-owed : (f : Format) (a : Asked) → workOf f a .code ≡ 0 → Exactly (workOf f a .settled ≡ 1) (MarkOwed f (kindNumbered (a .kind) .kernel) a)
+plain-owed : (f : Format) (a : Asked) → plainOf f a .code ≡ 0 → Exactly (plainOf f a .settled ≡ 1) (MarkOwed f (kindNumbered (a .kind) .kernel) a)
 unfolding answeredBy
-work-owed f a =
+plain-owed f a =
     let nine = a .nine in
     each-kind (λ (k : Kind). answeredBy f (k .kernel) a .code ≡ 0 → Exactly (answeredBy f (k .kernel) a .settled ≡ 1) (MarkOwed f (k .kernel) a))
     (λ c. absurd (omega arith))
@@ -55,11 +56,20 @@ work-owed f a =
     (λ c. always (ap doneMark c))
     (a .kind)
 
+-- the mark is that of the matrix that is worked, and multiplying back does not change it
+work-owed : (f : Format) (a : Asked) → workOf f a .code ≡ 0 → Exactly (workOf f a .settled ≡ 1) (MarkOwed f (kindNumbered (a .kind) .kernel) (workedOn f a))
+work-owed f a =
+    let Owed : Asked → Worked → Type 0 =
+    λ (b : Asked) (w : Worked). w .code ≡ 0 → Exactly (w .settled ≡ 1) (MarkOwed f (kindNumbered (a .kind) .kernel) b) in
+    by-way f a (Owed (workedOn f a))
+    (λ e. rw e (by-back f (powerFor f a) _ (Owed (divided f (powerFor f a) a)) (λ _. plain-owed f (divided f (powerFor f a) a)) (λ _ c. absurd (omega arith))))
+    (λ e. rw e (plain-owed f a))
+
 -- ---- a request of the right size
 
 module _ (f : Format) (s : List ℕ) where
-  mark-in : MarkIn f s ≡ MarkOwed f (kindNumbered (kindOf s) .kernel) (askedOf f s)
-  mark-in = rw (in-table (kindOf s) .2, given-asked f s)
+  mark-in : MarkIn f s ≡ MarkOwed f (kindNumbered (kindOf s) .kernel) (workedOn f (askedOf f s))
+  mark-in = rw (in-table (kindOf s) .2, worked-in f s)
 
   pub judged-mark : judgedOf f s .settled ≤ 1
   unfolding judgedOf

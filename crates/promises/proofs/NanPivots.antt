@@ -1,5 +1,5 @@
 -- What 9 and 7 tell of a record: the numbers of a request are values of the format, so what holds of the factors of such numbers holds here, kind by kind.
-use Rattle.float.proofs.Words.{_≡_, refl, sym, ap, _∙_, subst, subst⁻¹, Bool, true, false, true≢false, false≢true, _&&_, List, [], _++_, inl, inr, ⊎-elim, ℕ}
+use Rattle.float.proofs.Words.{_≡_, refl, sym, ap, _∙_, subst, subst⁻¹, Bool, true, false, true≢false, false≢true, List, [], _++_, inl, inr, ⊎-elim, ℕ}
 use Rattle.float.proofs.Words.{_≤_, _<_, arith, length, T, Float, Format, le, fits}
 use lib.Ieee.Bits.{ofBits-fits}
 use contract.Lifetimes.{Lfts}
@@ -13,29 +13,30 @@ use Rattle.float.proofs.Finite.{append-passes, parts-finite}
 use Rattle.matrix.specs.Places.{at, zeros, Fit}
 use Rattle.matrix.proofs.Rows.{by-finite}
 use Rattle.matrix.proofs.Tables.{at-tabulate}
-use Rattle.cholesky.specs.Pivots.{pivots3Of, one, oneAtMostZero, oneNan, refusedPivot}
+use Rattle.cholesky.specs.Pivots.{pivots3Of, one, pivotCode, oneAtMostZero, oneNan, refusedPivot}
 use Rattle.cholesky.specs.NanPivot.{NanThird}
 use Rattle.cholesky.proofs.Rows.{none-passes}
 use Rattle.cholesky.proofs.NanPivots.{no-nan2, whole2-finite, whole3-finite, third-met, third-is-nan}
 use Rattle.cholesky.proofs.NanCodes.{nine-tests, not-nine, third-refused}
 use Rattle.kinds.specs.Table.{kindNumbered, knownKind}
-use Rattle.kinds.specs.Work.{firstOf, refusedKind, usedFinite, workOf}
+use Rattle.kinds.specs.Work.{firstOf, refusedKind, usedFinite}
+use Rattle.kinds.specs.Ways.{workOf}
 use Rattle.kinds.specs.declared.work.Asked.{Asked}
 use Rattle.kinds.specs.declared.work.Worked.{Worked}
 use Rattle.kinds.proofs.Works.{Used, used}
 use Rattle.wire.specs.Bytes.{placeOf, numberAt}
 use Rattle.record.specs.Layout.{nineAt, requestSize, answerSize}
-use Rattle.record.specs.Request.{kindOf, askedOf, reservedZero, unusedZero, formOf, judgedOf}
+use Rattle.record.specs.Request.{kindOf, askedOf, restRight, formOf, judgedOf}
 use Rattle.record.specs.Answer.{Step, recordStepOf}
 use Rattle.record.proofs.Answers.{with-room, wrong-size, no-room}
 use Rattle.record.proofs.answer.zanikory_answer_record.Reads as answer-record
 use Rattle.promises.specs.Scope.{threeBegin, kindIn, numbersIn, kernelNumbered, given}
-use Rattle.promises.specs.Conditions.{usedIn, pivotsIn, pivotsOf, numbersOf, factorMade2, factorMade3}
+use Rattle.promises.specs.Conditions.{usedIn, pivotsIn, pivotsOf, factorMade2, factorMade3}
 use Rattle.promises.specs.NanPivots.{HasFactor3x3, sixIn, Nine, Seven}
 use Rattle.promises.proofs.Scope.{each-number, past-eight, in-table, numbers-in, given-asked}
-use Rattle.promises.proofs.Kernels.{laterCode, kind-code}
+use Rattle.promises.proofs.Kernels.{madeOf, kind-code}
 use Rattle.promises.proofs.Codes.{codes}
-use Rattle.promises.proofs.Told.{Sizes, Listed, Zeros, AllFinite, nine-told}
+use Rattle.promises.proofs.Told.{Sizes, Listed, Rest, AllFinite, nine-told}
 use Rattle.promises.proofs.Pivots.{known-form}
 use Rattle.promises.proofs.Leaves.{leaves}
 
@@ -76,8 +77,9 @@ module _ (f : Format) (a : Asked) (fit : Fit f 9 (a .nine)) where
       none : {X : Type 0} → (oneAtMostZero f [] ≡ false) × (oneNan [] ≡ true) → X
       none t = absurd (false≢true (t .1))
 
+  -- the numbers that a kind of this number makes
   abbrev made : ℕ → List Float
-  made n = numbersOf f (kindNumbered n .kernel) a
+  made n = madeOf f (record { kind = n; way = a .way; nine = a .nine; three = a .three })
 
   abbrev SevenAt : ℕ → Type 0
   SevenAt n = Used a (kindNumbered n) → (oneAtMostZero f (pivots n) ≡ false) × (oneNan (pivots n) ≡ false) × (allFinite (made n) ≡ false)
@@ -101,7 +103,7 @@ module _ (f : Format) (a : Asked) (fit : Fit f 9 (a .nine)) where
 -- ---- the record step: a code above 5 is the kind's, of a known kind and of finite numbers
 
 module _ (f : Format) (s : List ℕ) where
-  asked-fit : Fit f 9 (askedOf f s .nine)
+  pub asked-fit : Fit f 9 (askedOf f s .nine)
   asked-fit i l =
       subst⁻¹ (λ (x : Float). T (fits f x)) (at-tabulate 9 (λ (i : ℕ). numberAt f (placeOf f nineAt i) s) i l) (ofBits-fits f _)
 
@@ -114,11 +116,11 @@ module _ (f : Format) (s : List ℕ) where
   form-most =
       let Small : ℕ → Type 0 = λ (n : ℕ). n ≤ 4 in
       chosen Small (knownKind (kindOf s)) _ 3
-      (chosen Small (reservedZero s && unusedZero f (kindNumbered (kindOf s)) s) 0 4 (omega arith) (omega arith)) (omega arith)
+      (chosen Small (restRight f s) 0 4 (omega arith) (omega arith)) (omega arith)
 
   form-known : formOf f s ≡ 0 → knownKind (kindOf s) ≡ true
   unfolding formOf
-  form-known = known-form (knownKind (kindOf s)) (reservedZero s && unusedZero f (kindNumbered (kindOf s)) s)
+  form-known = known-form (knownKind (kindOf s)) (restRight f s)
 
   judged-asks : (k : ℕ) → 5 < k → judgedOf f s .code ≡ k → Asking k
   unfolding judgedOf
@@ -137,7 +139,8 @@ module _ (f : Format) (s : List ℕ) where
       (λ n. let e = ap (λ (t : Step). t .code) (no-room f s a n) in absurd (omega (arith, e, c)))
 
   -- its code by the tests of its kind
-  by-kind-code : {k : ℕ} → Asking k → laterCode f (askedOf f s) (kindNumbered (kindOf s) .kernel) ≡ k
+  by-kind-code : {k : ℕ} → Asking k
+      → pivotCode f (pivotsOf f (kindNumbered (kindOf s) .kernel) (askedOf f s)) (pick (allFinite (madeOf f (askedOf f s))) 0 7) ≡ k
   by-kind-code q = sym (kind-code f (askedOf f s) (q .0) (q .1)) ∙ q .2
 
   six-in : firstOf 6 (askedOf f s .nine) ≡ sixIn f s
@@ -172,7 +175,7 @@ module _ (f : Format) (s : List ℕ) where
       }
 
   -- of a request that has the right size, kind and zeros, and finite numbers: exactly then
-  module _ (a : List ℕ) (kind : HasFactor3x3 (kindIn s)) (sizes : Sizes f s a _ (codes f s a)) (zeros : Zeros f s a _ (codes f s a))
+  module _ (a : List ℕ) (kind : HasFactor3x3 (kindIn s)) (sizes : Sizes f s a _ (codes f s a)) (rest : Rest f s a _ (codes f s a))
       (given-finite : AllFinite f s a _ (codes f s a) (usedIn f s)) where
     listed : Listed f s a _ (codes f s a)
     listed =
@@ -193,7 +196,7 @@ module _ (f : Format) (s : List ℕ) where
         there : NanThird f (sixIn f s) → recordStepOf f s a .code ≡ 9
         there h =
             let m = third-met f (sixIn f s) six-fit refl used-six .1 h in
-            nine-told f s a _ (codes f s a) sizes listed zeros given-finite
+            nine-told f s a _ (codes f s a) sizes listed rest given-finite
             (none-passes (λ (p : Float). le p (zeroF f)) (pivotsIn f s) (rw (pivots-six kind) (m .0)))
             2 (rw (pivots-six kind) (omega arith)) (rw (pivots-six kind) (third-is-nan f (sixIn f s) six-fit refl used-six h))
 

@@ -1,5 +1,5 @@
 -- With codes 6 and 9 an answer has the number of the first pivot that has no root: the steps stop there, and their number is handed on.
-use Rattle.float.proofs.Words.{_≡_, refl, subst, Bool, true, false, _&&_, List, ℕ, arith, Format}
+use Rattle.float.proofs.Words.{_≡_, refl, subst, Bool, true, false, List, ℕ, arith, Format}
 use Rattle.float.specs.Choice.{pick}
 use Rattle.float.specs.Sign.{allFinite}
 use Rattle.float.proofs.Choice.{by-test, by-eqb}
@@ -9,17 +9,19 @@ use Rattle.cholesky.specs.Pivots.{one, refusedPivot, Stopped}
 use Rattle.cholesky.proofs.Stops.{unstopped}
 use Rattle.cholesky.proofs.Codes.{factor2-pivot, factor3-pivot, solved2-pivot, solved3-pivot}
 use Rattle.kinds.specs.Table.{kindNumbered, knownKind}
-use Rattle.kinds.specs.Work.{firstOf, refusedKind, fromFactor, usedFinite, answeredBy, workOf}
+use Rattle.kinds.specs.Work.{firstOf, refusedKind, fromFactor, usedFinite, answeredBy}
+use Rattle.kinds.specs.Ways.{workOf}
 use Rattle.kinds.specs.declared.table.Kind.{Kind}
 use Rattle.kinds.specs.declared.table.Kernel.the-variants.{Eigen2x2, Eigen3x3, Svd2x2, Svd3x3}
 use Rattle.kinds.specs.declared.work.Asked.{Asked}
 use Rattle.kinds.specs.declared.work.Worked.{Worked}
 use Rattle.kinds.proofs.Rows.{each-kind}
 use Rattle.kinds.proofs.Works.{factor-code}
-use Rattle.record.specs.Request.{kindOf, askedOf, reservedZero, unusedZero, formOf, judgedOf}
+use Rattle.kinds.proofs.BothWays.{by-way}
+use Rattle.record.specs.Request.{kindOf, askedOf, restRight, formOf, judgedOf}
 use Rattle.promises.specs.Conditions.{pivotsOf, numbersOf, pivotsIn}
 use Rattle.promises.proofs.Scope.{pivots-in}
-use Rattle.promises.proofs.Kernels.{laterCode, kind-code}
+use Rattle.promises.proofs.Kernels.{laterCode, plain-code, scaled-unstopped}
 
 -- with 6 and 9 a record of a factor has the factor's number
 factor-hands : (f : Format) (s pivot : ℕ) (r : FactorAnswer) → (Stopped (r .code) → r .pivot ≡ pivot)
@@ -41,9 +43,9 @@ module _ (f : Format) (a : Asked) where
   Hands k = answeredBy f (k .kernel) a .code ≡ laterCode f a (k .kernel) → Stopped (answeredBy f (k .kernel) a .code)
       → answeredBy f (k .kernel) a .count ≡ refusedPivot f 1 (pivotsOf f (k .kernel) a)
 
-  work-hands : (n : ℕ) → Hands (kindNumbered n)
+  plain-hands : (n : ℕ) → Hands (kindNumbered n)
   unfolding answeredBy one
-  work-hands =
+  plain-hands =
       each-kind Hands (λ _ c. absurd (unstopped 3 refl c))
       (λ e c. absurd (without-pivots (allFinite (numbersOf f Eigen2x2 a)) (subst Stopped e c)))
       (λ e c. absurd (without-pivots (allFinite (numbersOf f Eigen3x3 a)) (subst Stopped e c)))
@@ -53,6 +55,15 @@ module _ (f : Format) (a : Asked) where
       (λ _ c. factor-hands f 6 _ _ (factor3-pivot f (zeros f 6) (firstOf 6 (a .nine))) c)
       (λ _. solved2-pivot f (firstOf 3 (a .nine)) (firstOf 2 (a .three)))
       (λ _. solved3-pivot f (firstOf 6 (a .nine)) (firstOf 3 (a .three)))
+
+  -- ---- both ways: a matrix that is scaled has no pivots, and its code is 0 or 7
+
+  work-hands : knownKind (a .kind) ≡ true → usedFinite a ≡ true → Stopped (workOf f a .code)
+      → workOf f a .count ≡ refusedPivot f 1 (pivotsOf f (kindNumbered (a .kind) .kernel) a)
+  unfolding one
+  work-hands known used =
+      by-way f a (λ (w : Worked). Stopped (w .code) → w .count ≡ refusedPivot f 1 (pivotsOf f (kindNumbered (a .kind) .kernel) a))
+      (λ e c. absurd (scaled-unstopped f a known used e c)) (λ _. plain-hands (a .kind) (plain-code f a known used))
 
 -- ---- the record
 
@@ -70,11 +81,10 @@ unfolding judgedOf formOf
 pivot-given f s =
     let a = askedOf f s in
     let kind = kindNumbered (kindOf s) in
-    let zero = reservedZero s && unusedZero f kind s in
     let P : Worked → Type 0 = λ (w : Worked). Stopped (w .code) → w .count ≡ refusedPivot f 1 (pivotsOf f (kind .kernel) a) in
     rw (pivots-in f s)
     (by-eqb P (formOf f s) 0 (pick (usedFinite a) (workOf f a) (refusedKind f 5 0)) (refusedKind f (formOf f s) 0)
     (λ e. by-test P (usedFinite a) (workOf f a) (refusedKind f 5 0)
-    (λ u. work-hands f a (kindOf s) (kind-code f a (known-form (knownKind (kindOf s)) zero e) u))
+    (λ u. work-hands f a (known-form (knownKind (kindOf s)) (restRight f s) e) u)
     (λ _ c. absurd (unstopped 5 refl c)))
-    (λ _ c. absurd (form-unstopped (knownKind (kindOf s)) zero c)))
+    (λ _ c. absurd (form-unstopped (knownKind (kindOf s)) (restRight f s) c)))

@@ -1,17 +1,24 @@
 -- The scope's numbers, written out, are those of the layout and of the table of kinds: each format and each kind is looked at.
-use Rattle.float.proofs.Words.{_≡_, refl, sym, ap, _∙_, true, false, false≢true, List, [], _∷_, ℕ, zero, suc, _+_, _*_, _<_, arith, eqb, take, drop}
-use Rattle.float.proofs.Words.{inl, inr, Format, binary32, binary64, ofBits, ne-eqb}
+use Rattle.float.proofs.Words.{_≡_, refl, sym, ap, _∙_, Bool, true, false, false≢true, List, [], _∷_, _++_, ℕ, zero, suc, _+_, _*_, _<_, arith, eqb, take, drop}
+use Rattle.float.proofs.Words.{inl, inr, ℤ, negℤ, Float, Format, binary32, binary64, ofBits, ne-eqb}
+use Rattle.float.specs.Choice.{pick}
 use Rattle.float.specs.Sign.{allFinite}
+use Rattle.float.specs.Scaled.{powerOf}
 use Rattle.float.proofs.Finite.{all-finite-append}
 use Rattle.matrix.proofs.Tables.{tabulate-same, first-tabulate}
 use Rattle.kinds.specs.Table.{unknown, kindNumbered}
 use Rattle.kinds.specs.Work.{firstOf, usedFinite}
+use Rattle.kinds.specs.Ways.{isScaled, timesAll, powerFor, divided, workedOn}
+use Rattle.kinds.specs.declared.table.Kernel.{Kernel}
+use Rattle.kinds.specs.declared.work.Asked.{Asked}
 use Rattle.kinds.proofs.Rows.{nine-most, three-most}
 use Rattle.wire.specs.Bytes.{numberBytes, placeOf, wordOf, numberAt, numbersFrom}
 use Rattle.record.specs.Layout.{nineAt, threeAt, requestSize, answerSize}
-use Rattle.record.specs.Request.{kindOf, askedOf}
-use Rattle.promises.specs.Scope.{numberLength, requestLength, answerLength, threeBegin, usedNine, usedThree, kernelNumbered, little, numbersIn, given}
-use Rattle.promises.specs.Conditions.{usedIn, pivotsOf, numbersOf, pivotsIn, madeIn}
+use Rattle.record.specs.Request.{kindOf, wayOf, askedOf}
+use Rattle.promises.specs.Scope.{numberLength, requestLength, answerLength, threeBegin, usedNine, usedThree, lastWay, kernelNumbered, little, numbersIn}
+use Rattle.promises.specs.Scope.{kindIn, given, scaledIn, powerIn, dividedIn, workedIn}
+use Rattle.promises.specs.Conditions.{usedIn, pivotsOf, numbersOf, valuesOf, pivotsIn, madeIn}
+use Rattle.promises.proofs.Kernels.{madeOf}
 use Rattle.promises.specs.Leaves.{Turned}
 
 -- ---- bytes
@@ -66,12 +73,14 @@ past-eight n =
 
 -- a number's row in the table has these
 abbrev pub InTable : ℕ → Type 0
-InTable n = (usedNine n ≡ kindNumbered n .nine) × (usedThree n ≡ kindNumbered n .three) × (kernelNumbered n ≡ kindNumbered n .kernel)
+InTable n =
+    (usedNine n ≡ kindNumbered n .nine) × (usedThree n ≡ kindNumbered n .three) × (kernelNumbered n ≡ kindNumbered n .kernel)
+    × (lastWay n ≡ pick (kindNumbered n .scales) 1 0)
 
 pub in-table : (n : ℕ) → InTable n
 in-table =
-    each-number InTable (refl, refl, refl) (refl, refl, refl) (refl, refl, refl) (refl, refl, refl) (refl, refl, refl) (refl, refl, refl) (refl, refl, refl)
-    (refl, refl, refl) (refl, refl, refl) (λ n. rw (past-eight n) (refl, refl, refl))
+    each-number InTable (refl, refl, refl, refl) (refl, refl, refl, refl) (refl, refl, refl, refl) (refl, refl, refl, refl) (refl, refl, refl, refl)
+    (refl, refl, refl, refl) (refl, refl, refl, refl) (refl, refl, refl, refl) (refl, refl, refl, refl) (λ n. rw (past-eight n) (refl, refl, refl, refl))
 
 -- ---- numbers
 
@@ -85,31 +94,71 @@ numbers-in f a n s =
     tabulate-same n _ (λ (i : ℕ). numberAt f (placeOf f a i) s)
     (λ i _. ap (λ (w : ℕ). ofBits f (little (take w (drop (a + w * i) s)))) (number-length f) ∙ ap (ofBits f) (word-of _))
 
+three-in : (f : Format) (s : List ℕ) → numbersIn f (threeBegin f) 3 s ≡ numbersFrom f 3 (threeAt f) s
+three-in f s = ap (λ (a : ℕ). numbersIn f a 3 s) (three-begin f) ∙ numbers-in f (threeAt f) 3 s
+
 pub given-asked : (f : Format) (s : List ℕ) → given f s ≡ askedOf f s
-given-asked f s =
-    let three : numbersIn f (threeBegin f) 3 s ≡ numbersFrom f 3 (threeAt f) s =
-    ap (λ (a : ℕ). numbersIn f a 3 s) (three-begin f) ∙ numbers-in f (threeAt f) 3 s in
-    rw (numbers-in f nineAt 9 s, three)
+given-asked f s = rw (numbers-in f nineAt 9 s, three-in f s)
 
 -- the numbers that the kind uses
+pub used-nine : (f : Format) (s : List ℕ) → numbersIn f 8 (usedNine (kindOf s)) s ≡ firstOf (kindNumbered (kindOf s) .nine) (numbersFrom f 9 nineAt s)
+used-nine f s =
+    let n = kindNumbered (kindOf s) .nine in
+    ap (λ (n : ℕ). numbersIn f 8 n s) (in-table (kindOf s) .0) ∙ numbers-in f 8 n s ∙ sym (first-tabulate n 9 _ (nine-most (kindOf s)))
+
 pub used-finite : (f : Format) (s : List ℕ) → usedFinite (askedOf f s) ≡ allFinite (usedIn f s)
 used-finite f s =
     let k = kindNumbered (kindOf s) in
-    let t = in-table (kindOf s) in
-    let nine : numbersIn f 8 (usedNine (kindOf s)) s ≡ firstOf (k .nine) (numbersFrom f 9 nineAt s) =
-    ap (λ (n : ℕ). numbersIn f 8 n s) (t .0) ∙ numbers-in f 8 (k .nine) s ∙ sym (first-tabulate (k .nine) 9 _ (nine-most (kindOf s))) in
     let three : numbersIn f (threeBegin f) (usedThree (kindOf s)) s ≡ firstOf (k .three) (numbersFrom f 3 (threeAt f) s) =
-    ap (λ (n : ℕ). numbersIn f (threeBegin f) n s) (t .1) ∙ ap (λ (a : ℕ). numbersIn f a (k .three) s) (three-begin f)
+    ap (λ (n : ℕ). numbersIn f (threeBegin f) n s) (in-table (kindOf s) .1) ∙ ap (λ (a : ℕ). numbersIn f a (k .three) s) (three-begin f)
     ∙ numbers-in f (threeAt f) (k .three) s ∙ sym (first-tabulate (k .three) 3 _ (three-most (kindOf s))) in
-    rw (all-finite-append (numbersIn f 8 (usedNine (kindOf s)) s) (numbersIn f (threeBegin f) (usedThree (kindOf s)) s), nine, three)
+    rw (all-finite-append (numbersIn f 8 (usedNine (kindOf s)) s) (numbersIn f (threeBegin f) (usedThree (kindOf s)) s), used-nine f s, three)
+
+-- ---- the scaled way
+
+second-way : (b : Bool) → eqb (pick b 1 0) 1 ≡ b
+second-way true = refl
+second-way false = refl
+
+pub scaled-in : (f : Format) (s : List ℕ) → scaledIn s ≡ isScaled (askedOf f s)
+scaled-in f s = rw (in-table (kindOf s) .3, second-way (kindNumbered (kindOf s) .scales))
+
+pub power-in : (f : Format) (s : List ℕ) → powerIn f s ≡ powerFor f (askedOf f s)
+power-in f s = ap (powerOf f) (used-nine f s)
+
+pub divided-in : (f : Format) (s : List ℕ) → dividedIn f s ≡ divided f (powerFor f (askedOf f s)) (askedOf f s)
+divided-in f s =
+    let build : ℤ → List Float → List Float → Asked =
+    λ (k : ℤ) (nine three : List Float). record { kind = kindOf s; way = wayOf s; nine = timesAll f (negℤ k) 9 nine; three = three } in
+    let a = askedOf f s in
+    ap (λ (k : ℤ). build k (numbersIn f 8 9 s) (numbersIn f (threeBegin f) 3 s)) (power-in f s)
+    ∙ ap (λ (nine : List Float). build (powerFor f a) nine (numbersIn f (threeBegin f) 3 s)) (numbers-in f 8 9 s)
+    ∙ ap (build (powerFor f a) (a .nine)) (three-in f s)
+
+pub worked-in : (f : Format) (s : List ℕ) → workedIn f s ≡ workedOn f (askedOf f s)
+worked-in f s =
+    let a = askedOf f s in
+    ap (λ (t : Bool). pick t (dividedIn f s) (given f s)) (scaled-in f s)
+    ∙ ap (λ (b : Asked). pick (isScaled a) b (given f s)) (divided-in f s)
+    ∙ ap (pick (isScaled a) (divided f (powerFor f a) a)) (given-asked f s)
 
 -- ---- pivots and numbers made
 
 pub pivots-in : (f : Format) (s : List ℕ) → pivotsIn f s ≡ pivotsOf f (kindNumbered (kindOf s) .kernel) (askedOf f s)
 pivots-in f s = rw (in-table (kindOf s) .2, given-asked f s)
 
-pub made-in : (f : Format) (s : List ℕ) → madeIn f s ≡ numbersOf f (kindNumbered (kindOf s) .kernel) (askedOf f s)
-made-in f s = rw (in-table (kindOf s) .2, given-asked f s)
+pub made-in : (f : Format) (s : List ℕ) → madeIn f s ≡ madeOf f (askedOf f s)
+made-in f s =
+    let a = askedOf f s in
+    let made : Bool → Kernel → ℤ → Asked → Asked → List Float = λ (t : Bool) (c : Kernel) (k : ℤ) (b g : Asked).
+    pick t (numbersOf f c b ++ timesAll f k 3 (valuesOf f c b)) (numbersOf f c g) in
+    let b = divided f (powerFor f a) a in
+    let c = kindNumbered (kindOf s) .kernel in
+    ap (λ (t : Bool). made t (kernelNumbered (kindIn s)) (powerIn f s) (dividedIn f s) (given f s)) (scaled-in f s)
+    ∙ ap (λ (c : Kernel). made (isScaled a) c (powerIn f s) (dividedIn f s) (given f s)) (in-table (kindOf s) .2)
+    ∙ ap (λ (k : ℤ). made (isScaled a) c k (dividedIn f s) (given f s)) (power-in f s)
+    ∙ ap (λ (b : Asked). made (isScaled a) c (powerFor f a) b (given f s)) (divided-in f s)
+    ∙ ap (made (isScaled a) c (powerFor f a) b) (given-asked f s)
 
 -- ---- rotations are counted
 

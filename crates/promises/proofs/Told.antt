@@ -7,8 +7,8 @@ use Rattle.float.proofs.Choice.{not-below, whether}
 use Rattle.matrix.specs.Places.{at}
 use Rattle.matrix.specs.Rows.{Gives}
 use Rattle.matrix.proofs.Rows.{taken-row, passed-row, not-given}
-use Rattle.promises.specs.Scope.{requestLength, answerLength, kindIn}
-use Rattle.promises.specs.Conditions.{Unused, usedIn, pivotsIn, madeIn, rows}
+use Rattle.promises.specs.Scope.{requestLength, answerLength, lastWay, kindIn, wayIn}
+use Rattle.promises.specs.Conditions.{HasWay, Unused, Zeros, usedIn, pivotsIn, madeIn, rows}
 
 -- ---- what is not refuted, of numbers and of tests
 
@@ -32,8 +32,9 @@ module _ (f : Format) (s a : List ℕ) (c : ℕ) (g : Gives (rows f s a) c) wher
   abbrev pub Listed : Type 0
   Listed = (1 ≤ kindIn s) × (kindIn s ≤ 8)
 
-  abbrev pub Zeros : Type 0
-  Zeros = (i : ℕ) → Unused f (kindIn s) i → getD s i 0 ≡ 0
+  -- the way is one of the kind's, and what is to be zero is zero
+  abbrev pub Rest : Type 0
+  Rest = HasWay s × Zeros f s
 
   abbrev pub AllFinite : List Float → Type 0
   AllFinite xs = (i : ℕ) → i < length xs → finite (at xs i) ≡ true
@@ -50,16 +51,16 @@ module _ (f : Format) (s a : List ℕ) (c : ℕ) (g : Gives (rows f s a) c) wher
   past-kind : Sizes → Listed → Gives (drop 3 (rows f s a)) c
   past-kind z k = passed-row (past-sizes z) (λ w. w k)
 
-  past-zeros : Sizes → Listed → Zeros → Gives (drop 4 (rows f s a)) c
-  past-zeros z k u = passed-row (past-kind z k) (λ w. w u)
+  past-rest : Sizes → Listed → Rest → Gives (drop 4 (rows f s a)) c
+  past-rest z k u = passed-row (past-kind z k) (λ w. w u)
 
-  past-used : Sizes → Listed → Zeros → AllFinite (usedIn f s) → Gives (drop 5 (rows f s a)) c
-  past-used z k u n = passed-row (past-zeros z k u) (λ w. w n)
+  past-used : Sizes → Listed → Rest → AllFinite (usedIn f s) → Gives (drop 5 (rows f s a)) c
+  past-used z k u n = passed-row (past-rest z k u) (λ w. w n)
 
-  past-low : Sizes → Listed → Zeros → AllFinite (usedIn f s) → NoneAtMostZero (pivotsIn f s) → Gives (drop 6 (rows f s a)) c
+  past-low : Sizes → Listed → Rest → AllFinite (usedIn f s) → NoneAtMostZero (pivotsIn f s) → Gives (drop 6 (rows f s a)) c
   past-low z k u n p = passed-row (past-used z k u n) (λ w. w p)
 
-  past-pivots : Sizes → Listed → Zeros → AllFinite (usedIn f s) → NoneAtMostZero (pivotsIn f s) → NoneNan (pivotsIn f s) → Gives (drop 7 (rows f s a)) c
+  past-pivots : Sizes → Listed → Rest → AllFinite (usedIn f s) → NoneAtMostZero (pivotsIn f s) → NoneNan (pivotsIn f s) → Gives (drop 7 (rows f s a)) c
   past-pivots z k u n p m = passed-row (past-low z k u n p) (λ w. w m)
 
   pub two-told : (length a ≡ answerLength f → ⊥) → c ≡ 2
@@ -72,25 +73,28 @@ module _ (f : Format) (s a : List ℕ) (c : ℕ) (g : Gives (rows f s a) c) wher
   three-told z h = taken-row (past-sizes z) (λ k. ⊎-elim (λ (e : kindIn s ≡ 0). omega (arith, k .0)) (λ (l : 8 < kindIn s). omega (arith, k .1)) h)
 
   pub four-told : Sizes → Listed → (i : ℕ) → Unused f (kindIn s) i → (getD s i 0 ≡ 0 → ⊥) → c ≡ 4
-  four-told z k i u h = taken-row (past-kind z k) (λ w. h (w i u))
+  four-told z k i u h = taken-row (past-kind z k) (λ w. h (w .1 i u))
 
-  pub five-told : Sizes → Listed → Zeros → (i : ℕ) → i < length (usedIn f s) → finite (at (usedIn f s) i) ≡ false → c ≡ 5
-  five-told z k u i l h = taken-row (past-zeros z k u) (λ w. true≢false (sym (w i l) ∙ h))
+  pub way-told : Sizes → Listed → lastWay (kindIn s) < wayIn s → c ≡ 4
+  way-told z k h = taken-row (past-kind z k) (λ w. omega (arith, w .0))
 
-  pub six-told : Sizes → Listed → Zeros → AllFinite (usedIn f s) → (i : ℕ) → i < length (pivotsIn f s) → le (at (pivotsIn f s) i) (zeroF f) ≡ true → c ≡ 6
+  pub five-told : Sizes → Listed → Rest → (i : ℕ) → i < length (usedIn f s) → finite (at (usedIn f s) i) ≡ false → c ≡ 5
+  five-told z k u i l h = taken-row (past-rest z k u) (λ w. true≢false (sym (w i l) ∙ h))
+
+  pub six-told : Sizes → Listed → Rest → AllFinite (usedIn f s) → (i : ℕ) → i < length (pivotsIn f s) → le (at (pivotsIn f s) i) (zeroF f) ≡ true → c ≡ 6
   six-told z k u n i l h = taken-row (past-used z k u n) (λ w. false≢true (sym (w i l) ∙ h))
 
-  pub nine-told : Sizes → Listed → Zeros → AllFinite (usedIn f s) → NoneAtMostZero (pivotsIn f s)
+  pub nine-told : Sizes → Listed → Rest → AllFinite (usedIn f s) → NoneAtMostZero (pivotsIn f s)
       → (i : ℕ) → i < length (pivotsIn f s) → isNan (at (pivotsIn f s) i) ≡ true → c ≡ 9
   nine-told z k u n p i l h = taken-row (past-low z k u n p) (λ w. false≢true (sym (w i l) ∙ h))
 
-  pub seven-told : Sizes → Listed → Zeros → AllFinite (usedIn f s) → NoneAtMostZero (pivotsIn f s) → NoneNan (pivotsIn f s)
+  pub seven-told : Sizes → Listed → Rest → AllFinite (usedIn f s) → NoneAtMostZero (pivotsIn f s) → NoneNan (pivotsIn f s)
       → (i : ℕ) → i < length (madeIn f s) → finite (at (madeIn f s) i) ≡ false → c ≡ 7
   seven-told z k u n p m i l h = taken-row (past-pivots z k u n p m) (λ w. true≢false (sym (w i l) ∙ h))
 
-  -- none of the rest: the sizes and the kind are right, what is to be zero is zero, and every number, given or made, is finite
+  -- none of the rest: the sizes, the kind and the way are right, what is to be zero is zero, and every number, given or made, is finite
   pub zero-told : c ≡ 0
-      → Sizes × Listed × Zeros × AllFinite (usedIn f s) × NoneAtMostZero (pivotsIn f s) × NoneNan (pivotsIn f s) × AllFinite (madeIn f s)
+      → Sizes × Listed × Rest × AllFinite (usedIn f s) × NoneAtMostZero (pivotsIn f s) × NoneNan (pivotsIn f s) × AllFinite (madeIn f s)
   zero-told e =
       let r2 = not-given g (λ q. omega (arith, e)) in
       let r1 = not-given (r2 .1) (λ q. omega (arith, e)) in
@@ -102,7 +106,7 @@ module _ (f : Format) (s a : List ℕ) (c : ℕ) (g : Gives (rows f s a) c) wher
       let r7 = not-given (r9 .1) (λ q. omega (arith, e)) in (
         (same-number _ _ (r2 .0), same-number _ _ (r1 .0)),
         kind (r3 .0),
-        (λ i u. same-number _ _ (λ k. r4 .0 (λ w. k (w i u)))),
+        (not-below (lastWay (kindIn s)) (wayIn s) (λ l. r4 .0 (λ w. omega (arith, w .0))), (λ i u. same-number _ _ (λ k. r4 .0 (λ w. k (w .1 i u))))),
         (λ i l. so _ (λ k. r5 .0 (λ w. k (w i l)))),
         (λ i l. not-so _ (λ k. r6 .0 (λ w. k (w i l)))),
         (λ i l. not-so _ (λ k. r9 .0 (λ w. k (w i l)))),

@@ -17,10 +17,12 @@ use Rattle.eigen.specs.declared.eigen3x3.Eigen3.{Eigen3}
 use Rattle.svd.proofs.Owed.{svd2-owed, svd3-owed}
 use Rattle.svd.specs.declared.svd2x2.Svd2.{Svd2}
 use Rattle.svd.specs.declared.svd3x3.Svd3.{Svd3}
-use Rattle.kinds.specs.Work.{firstOf, padded, refusedKind, fromEigen2, fromEigen3, fromSvd2, fromSvd3, fromFactor, fromSolved, usedFinite, answeredBy, workOf}
+use Rattle.kinds.specs.Work.{firstOf, padded, refusedKind, fromEigen2, fromEigen3, fromSvd2, fromSvd3, fromFactor, fromSolved, usedFinite, answeredBy, plainOf}
+use Rattle.kinds.specs.Ways.{powerFor, divided, workOf}
 use Rattle.kinds.specs.declared.table.Kind.{Kind}
 use Rattle.kinds.specs.declared.work.Asked.{Asked}
 use Rattle.kinds.proofs.Rows.{each-kind}
+use Rattle.kinds.proofs.BothWays.{by-back, by-way}
 use Rattle.record.specs.Request.{askedOf, formOf, judgedOf}
 use Rattle.record.proofs.Answers.{judged-sized}
 use Rattle.promises.specs.Vouched.{Vouched}
@@ -46,9 +48,9 @@ factor-vouched f s r h =
 -- ---- each kind
 
 module _ (f : Format) (a : Asked) where
-  work-vouched : Vouched (workOf f a)
+  pub plain-vouched : Vouched (plainOf f a)
   unfolding answeredBy
-  work-vouched =
+  plain-vouched =
       let nine = a .nine in
       let three = a .three in
       let zero = refused-vouched f 0 0 in
@@ -68,6 +70,13 @@ module _ (f : Format) (a : Asked) where
       (by-owed (solved3-owed f (firstOf 6 nine) (firstOf 3 three)) (λ (r : SolvedAnswer). Vouched (fromSolved f 6 3 r))
       (λ h. (padded-finite f 3 3 _ (h .2 .0) (h .2 .1), padded-finite f 9 6 _ (h .0) (h .1), zeros-finite f 9)) zero)
       (a .kind)
+
+-- the values that are multiplied back have passed a test
+work-vouched : (f : Format) (a : Asked) → Vouched (workOf f a)
+work-vouched f a =
+    let b = divided f (powerFor f a) a in
+    let h = plain-vouched f b in
+    by-way f a Vouched (λ _. by-back f (powerFor f a) (plainOf f b) Vouched (λ e. (e, h .1, h .2)) (λ _. refused-vouched f 7 0)) (λ _. plain-vouched f a)
 
 -- ---- every record
 

@@ -6,7 +6,9 @@ use mathlib.Core.Logic.{_⊎_}
 use Prim.Native.Nat.{ℕ, _+_, _*_, _≤_, _<_}
 use lib.ListN.{getD}
 use lib.Ieee.{Float, Format}
-use Rattle.matrix.specs.Places.{zeros}
+use Rattle.float.specs.Choice.{pick}
+use Rattle.float.specs.Scaled.{timesPower}
+use Rattle.matrix.specs.Places.{zeros, at, tabulate}
 use Rattle.matrix.specs.Rows.{Row, on, WrongLength, NotFinite, AtMostZero, OneNan}
 use Rattle.cholesky.specs.Factor.{steps2Of, steps3Of}
 use Rattle.cholesky.specs.Pivots.{pivots2Of, pivots3Of}
@@ -15,29 +17,36 @@ use Rattle.eigen.specs.Eigen2x2 as eigen2
 use Rattle.eigen.specs.Eigen3x3 as eigen3
 use Rattle.svd.specs.Svd2x2 as svd2
 use Rattle.svd.specs.Svd3x3 as svd3
-use Rattle.kinds.specs.Work.{firstOf}
+use Rattle.kinds.specs.Work.{firstOf, padded}
 use Rattle.kinds.specs.declared.table.Kernel.{Kernel}
 use Rattle.kinds.specs.declared.table.Kernel.the-variants.{Eigen2x2, Eigen3x3, Svd2x2, Svd3x3, Factor2x2, Factor3x3, Solve2x2, Solve3x3, Unknown}
 use Rattle.kinds.specs.declared.work.Asked.{Asked}
-use Rattle.promises.specs.Scope.{numberLength, requestLength, answerLength, threeBegin, usedNine, usedThree, kernelNumbered, kindIn, numbersIn, given}
+use Rattle.promises.specs.Scope.{numberLength, requestLength, answerLength, threeBegin, usedNine, usedThree, lastWay, kernelNumbered, kindIn, wayIn}
+use Rattle.promises.specs.Scope.{numbersIn, given, scaledIn, powerIn, dividedIn}
 
 -- ---- 3: the kind is none of 1 to 8
 
 abbrev pub NoKind : ℕ → Type 0
 NoKind k = (1 ≤ k) × (k ≤ 8) → ⊥
 
--- ---- 4: bytes that are to be zero, the reserved ones and those of the numbers that the kind does not use
+-- ---- 4: the way is none of the kind's; or one of the bytes that are to be zero is not, the reserved ones and those of the numbers that the kind does not use
+
+abbrev pub HasWay : List ℕ → Type 0
+HasWay s = wayIn s ≤ lastWay (kindIn s)
 
 abbrev pub Between : ℕ → ℕ → ℕ → Type 0
 Between a e i = (a ≤ i) × (i < e)
 
 abbrev pub Unused : Format → ℕ → ℕ → Type 0
 Unused f k i =
-    Between 5 8 i
+    Between 6 8 i
     ⊎ (Between (8 + numberLength f * usedNine k) (threeBegin f) i ⊎ Between (threeBegin f + numberLength f * usedThree k) (requestLength f) i)
 
-abbrev pub NotZero : Format → List ℕ → Type 0
-NotZero f s = ((i : ℕ) → Unused f (kindIn s) i → getD s i 0 ≡ 0) → ⊥
+abbrev pub Zeros : Format → List ℕ → Type 0
+Zeros f s = (i : ℕ) → Unused f (kindIn s) i → getD s i 0 ≡ 0
+
+abbrev pub NotAsItIsToBe : Format → List ℕ → Type 0
+NotAsItIsToBe f s = HasWay s × Zeros f s → ⊥
 
 -- ---- 5: the numbers that the kind uses
 
@@ -77,13 +86,30 @@ numbersOf f Solve2x2 a = factorMade2 f a ++ solution2Of f (factorMade2 f a) (fir
 numbersOf f Solve3x3 a = factorMade3 f a ++ solution3Of f (factorMade3 f a) (firstOf 3 (a .three))
 numbersOf f Unknown a = []
 
+-- ---- 7, in the scaled way: the values, multiplied back by 2 ^ k. A 2x2 leaves +0 in the third place
+
+abbrev pub valuesOf : Format → Kernel → Asked → List Float
+valuesOf f Eigen2x2 a = padded f 3 2 (eigen2.solved2 f (firstOf 3 (a .nine)) .values)
+valuesOf f Eigen3x3 a = padded f 3 3 (eigen3.rankedOf (eigen3.lastOf f (firstOf 6 (a .nine))) .values)
+valuesOf f Svd2x2 a = padded f 3 2 (svd2.factors2Of (svd2.sides2Of f (firstOf 4 (a .nine))) .values)
+valuesOf f Svd3x3 a = padded f 3 3 (svd3.factorsOf (svd3.lastOf f (firstOf 9 (a .nine))) .values)
+valuesOf f Factor2x2 a = []
+valuesOf f Factor3x3 a = []
+valuesOf f Solve2x2 a = []
+valuesOf f Solve3x3 a = []
+valuesOf f Unknown a = []
+
+abbrev pub backIn : Format → List ℕ → List Float
+backIn f s = tabulate 3 (λ (i : ℕ). timesPower f (powerIn f s) (at (valuesOf f (kernelNumbered (kindIn s)) (dividedIn f s)) i))
+
 -- ---- the rows
 
 abbrev pub pivotsIn : Format → List ℕ → List Float
 pivotsIn f s = pivotsOf f (kernelNumbered (kindIn s)) (given f s)
 
 abbrev pub madeIn : Format → List ℕ → List Float
-madeIn f s = numbersOf f (kernelNumbered (kindIn s)) (given f s)
+madeIn f s =
+    pick (scaledIn s) (numbersOf f (kernelNumbered (kindIn s)) (dividedIn f s) ++ backIn f s) (numbersOf f (kernelNumbered (kindIn s)) (given f s))
 
 abbrev pub rows : Format → List ℕ → List ℕ → List Row
 rows f request answer =
@@ -93,14 +119,14 @@ rows f request answer =
     ∷ on 1 (WrongLength request (requestLength f))
     -- the kind byte is the number of no kind
     ∷ on 3 (NoKind (kindIn request))
-    -- a reserved byte or an unused number is not all zero bits
-    ∷ on 4 (NotZero f request)
+    -- the way is none of the kind's, or a reserved byte or an unused number is not all zero bits
+    ∷ on 4 (NotAsItIsToBe f request)
     -- a used input number is NaN or infinite
     ∷ on 5 (NotFinite (usedIn f request))
     -- a pivot is at most zero
     ∷ on 6 (AtMostZero f (pivotsIn f request))
     -- a pivot is NaN
     ∷ on 9 (OneNan (pivotsIn f request))
-    -- a number of the answer, the worked matrix included, is NaN or infinite
+    -- a number of the answer, the worked matrix included, is NaN or infinite, or a value is when it is multiplied back
     ∷ on 7 (NotFinite (madeIn f request))
     ∷ []

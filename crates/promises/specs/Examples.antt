@@ -1,5 +1,5 @@
 -- The scope's examples P1 to P14 and its whole example, a third pivot that is NaN, and blind rotations, as rows of one table: what is asked, and all that is
--- answered. Definitions only.
+-- answered, in both ways. A second table has what the two ways answer differently. Definitions only.
 -- A number is its bit pattern. Zeros that fill up the places of a record are left out at the end of a list.
 use mathlib.Core.List.{List, [], _∷_, _++_, map}
 use Prim.Native.Nat.{ℕ, _+_, _-_, _*_, _^_}
@@ -7,7 +7,7 @@ use lib.ListN.{length, replicate}
 use lib.Ieee.{Float, binary64, ofBits, toBits}
 use Rattle.float.specs.Root.{rootBitsOf}
 use Rattle.cholesky.specs.Factor.{FactorAnswer, factor2Of, factor3Of}
-use Rattle.kinds.specs.Work.{workOf}
+use Rattle.kinds.specs.Ways.{workOf}
 use Rattle.kinds.specs.declared.work.Worked.{Worked}
 use Rattle.record.specs.Answer.{Step, recordStepOf}
 
@@ -32,6 +32,15 @@ pub record Row : Type 0 where
 
 abbrev pub row : Call → Shown → Row
 row asked answer = record { asked = asked; answer = answer }
+
+-- what the scaled way answers, and the old one
+pub record WaysRow : Type 0 where
+  pub asked : Call
+  pub scaled : Shown
+  pub given : Shown
+
+abbrev pub apart : Call → Shown → Shown → WaysRow
+apart asked scaled given = record { asked = asked; scaled = scaled; given = given }
 
 -- ---- what the definitions answer
 
@@ -58,12 +67,13 @@ ofStep t = slice (t .code) (t .answer)
 abbrev pub old : ℕ → List ℕ
 old n = replicate n 0x4008000000000000
 
-abbrev pub answerTo : Call → Shown
-answerTo (root x) = number (rootBitsOf binary64 x)
-answerTo (kind k nine three) = ofKind (workOf binary64 (record { kind = k; way = 0; nine = floats nine; three = floats three }))
-answerTo (factor2 a) = ofFactor (factor2Of binary64 (floats (old 3)) (floats a))
-answerTo (factor3 a) = ofFactor (factor3Of binary64 (floats (old 6)) (floats a))
-answerTo (whole request) = ofStep (recordStepOf binary64 request (replicate 176 0xFF))
+-- in the scaled way, 0, or in the old one, 1
+abbrev pub answerTo : ℕ → Call → Shown
+answerTo way (root x) = number (rootBitsOf binary64 x)
+answerTo way (kind k nine three) = ofKind (workOf binary64 (record { kind = k; way = way; nine = floats nine; three = floats three }))
+answerTo way (factor2 a) = ofFactor (factor2Of binary64 (floats (old 3)) (floats a))
+answerTo way (factor3 a) = ofFactor (factor3Of binary64 (floats (old 6)) (floats a))
+answerTo way (whole request) = ofStep (recordStepOf binary64 request (replicate 176 0xFF))
 
 -- ---- what is expected
 
@@ -118,6 +128,10 @@ power biased = biased * 2 ^ 52
 
 abbrev pub tiny : ℕ
 tiny = power (1023 - 60)
+
+-- a number of either sign, times 2 ^ -50
+abbrev pub fifty : ℕ → ℕ
+fifty x = x - 50 * 2 ^ 52
 
 abbrev pub nanPivot : List ℕ
 nanPivot = 1 ∷ 0 ∷ one ∷ power (1023 + 1023) ∷ 0 ∷ one ∷ []
@@ -189,4 +203,34 @@ table =
     ∷ row (whole (7 ∷ 0 ∷ 0 ∷ 0 ∷ 1 ∷ 0 ∷ 0 ∷ 0 ∷ twoBytes ++ oneBytes ++ twoBytes ++ replicate 72 0))
     (slice 0
     (7 ∷ 0 ∷ 0 ∷ 0 ∷ 1 ∷ 0 ∷ 0 ∷ 1 ∷ oneBytes ++ threeBytes ++ replicate 8 0 ++ hBytes 0x3F ++ hBytes 0xBF ++ hBytes 0x3F ++ hBytes 0x3F ++ replicate 112 0))
+    ∷ []
+
+-- ---- where the ways part
+
+abbrev pub waysTable : List WaysRow
+waysTable =
+    -- P9 times 2 ^ -50: turned as P9 is; in the old way the number beside the diagonal is under the limit, and nothing is turned
+    apart (kind 2 (fifty (minus two) ∷ fifty (minus one) ∷ fifty (minus two) ∷ 0 ∷ 0 ∷ fifty (minus five) ∷ []) [])
+    (good 1 (fifty (minus five) ∷ fifty (minus three) ∷ fifty (minus one) ∷ []) (0 ∷ 0 ∷ one ∷ h ∷ h ∷ 0 ∷ h ∷ minus h ∷ 0 ∷ []) [])
+    (good 0 (fifty (minus five) ∷ fifty (minus two) ∷ fifty (minus two) ∷ []) (0 ∷ 0 ∷ one ∷ 0 ∷ one ∷ 0 ∷ one ∷ 0 ∷ 0 ∷ []) [])
+    -- a sensor in such units
+    ∷ apart (kind 4 (fifty one ∷ 0 ∷ 0 ∷ 0 ∷ fifty (minus two) ∷ fifty one ∷ 0 ∷ fifty one ∷ fifty three ∷ []) [])
+    (good 1 (0x3CE98A68A4A8D9F3 ∷ 0x3CE18A68A4A8D9F3 ∷ fifty one ∷ [])
+    (0 ∷ 0x3FC834ACDD64E1E6 ∷ 0x3FEF6C2FCCE3835D ∷ minus 0 ∷ 0xBFEF6C2FCCE3835D ∷ 0x3FC834ACDD64E1E6 ∷ one ∷ 0 ∷ 0 ∷ [])
+    (0 ∷ 0x3FC834ACDD64E1E6 ∷ 0x3FEF6C2FCCE3835D ∷ 0 ∷ 0x3FEF6C2FCCE3835D ∷ 0xBFC834ACDD64E1E6 ∷ one ∷ 0 ∷ 0 ∷ []))
+    (good 0 (fifty three ∷ fifty two ∷ fifty one ∷ []) (0 ∷ 0 ∷ one ∷ minus 0 ∷ minus one ∷ minus 0 ∷ one ∷ 0 ∷ 0 ∷ [])
+    (0 ∷ 0 ∷ one ∷ 0 ∷ one ∷ 0 ∷ one ∷ 0 ∷ 0 ∷ []))
+    -- 2, 1, 3 times 2 ^ -60: the old way turns by 45 degrees and is blind
+    ∷ apart (kind 1 (0x3C40000000000000 ∷ 0x3C30000000000000 ∷ 0x3C48000000000000 ∷ []) [])
+    (good 0 (0x3C361C8864680B58 ∷ 0x3C4CF1BBCDCBFA54 ∷ []) (0x3FEB38880B4603E4 ∷ 0xBFE0D2CA0DA1530C ∷ 0x3FE0D2CA0DA1530C ∷ 0x3FEB38880B4603E4 ∷ []) [])
+    (unsettled 0 (0x3C30000000000000 ∷ 0x3C50000000000000 ∷ []) (h ∷ minus h ∷ h ∷ h ∷ []) [])
+    -- the difference of the diagonal overflows in the old way, which drops the number beside it
+    ∷ apart (kind 1 (0xFFE0000000000000 ∷ 0x7FD0000000000000 ∷ 0x7FE0000000000000 ∷ []) [])
+    (good 0 (0xFFE1E3779B97F4A8 ∷ 0x7FE1E3779B97F4A8 ∷ []) (0x3FEF24DB1094205A ∷ 0xBFCD688B2FF4A8D7 ∷ 0x3FCD688B2FF4A8D7 ∷ 0x3FEF24DB1094205A ∷ []) [])
+    (good 0 (0xFFE0000000000000 ∷ 0x7FE0000000000000 ∷ []) (one ∷ minus 0 ∷ 0 ∷ one ∷ []) [])
+    -- the hypot of the polar step overflows in the old way, and the values are zeros
+    ∷ apart (kind 3 (0x7FD8000000000000 ∷ 0x7FD8000000000000 ∷ 0xFFD8000000000000 ∷ 0x7FD8000000000000 ∷ []) [])
+    (good 0 (0x7FE0F876CCDF6CD9 ∷ 0x7FE0F876CCDF6CD9 ∷ []) (0x3FE6A09E667F3BCC ∷ 0x3FE6A09E667F3BCC ∷ 0xBFE6A09E667F3BCC ∷ 0x3FE6A09E667F3BCC ∷ [])
+    (one ∷ minus 0 ∷ 0 ∷ one ∷ []))
+    (good 0 [] (0 ∷ minus 0 ∷ 0 ∷ 0 ∷ []) (one ∷ minus 0 ∷ 0 ∷ one ∷ []))
     ∷ []

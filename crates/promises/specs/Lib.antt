@@ -7,3 +7,5 @@ pub mod Marks
 pub mod Leaves
 pub mod NanPivots
 pub mod Counted
+pub mod Units
+pub mod AsGiven

@@ -13,7 +13,7 @@ use Rattle.kinds.specs.Work.{firstOf}
 use Rattle.kinds.specs.declared.table.Kernel.{Kernel}
 use Rattle.kinds.specs.declared.table.Kernel.the-variants.{Eigen2x2, Eigen3x3, Svd2x2, Svd3x3, Factor2x2, Factor3x3, Solve2x2, Solve3x3, Unknown}
 use Rattle.kinds.specs.declared.work.Asked.{Asked}
-use Rattle.promises.specs.Scope.{kernelNumbered, kindIn, given}
+use Rattle.promises.specs.Scope.{kernelNumbered, kindIn, workedIn}
 
 -- Of a 2x2 that is turned: its rotation is not blind. Of a 3x3: its last matrix is settled, and none of the rotations made is blind. The others make none.
 abbrev pub MarkOwed : Format → Kernel → Asked → Type 0
@@ -27,6 +27,6 @@ MarkOwed f Solve2x2 a = Unit {0}
 MarkOwed f Solve3x3 a = Unit {0}
 MarkOwed f Unknown a = Unit {0}
 
--- of a request
+-- of a request: by the matrix that is worked
 abbrev pub MarkIn : Format → List ℕ → Type 0
-MarkIn f s = MarkOwed f (kernelNumbered (kindIn s)) (given f s)
+MarkIn f s = MarkOwed f (kernelNumbered (kindIn s)) (workedIn f s)

@@ -3,8 +3,10 @@ use Rattle.float.proofs.Words.{_≡_, refl, sym, ap, _∙_, true, List, _∷_, 
 use Rattle.float.proofs.Words.{take, drop, replicate, length-append, length-take, length-drop, replicate-append-replicate, length-take-le, getD-append-add}
 use Rattle.float.proofs.Words.{drop-append-add, drop-drop, Format, eq-eqb, ne-eqb}
 use Rattle.float.proofs.Choice.{chosen, by-eqb, whether}
-use Rattle.kinds.specs.Work.{refusedKind, usedFinite, workOf}
-use Rattle.kinds.proofs.Works.{Sized, work-sized, Clear, work-clear, work-five}
+use Rattle.kinds.specs.Work.{refusedKind, usedFinite}
+use Rattle.kinds.specs.Ways.{workOf}
+use Rattle.kinds.proofs.Works.{Sized, Clear}
+use Rattle.kinds.proofs.BothWays.{work-sized, work-clear, work-five}
 use Rattle.kinds.specs.declared.work.Worked.{Worked}
 use Rattle.wire.specs.Bytes.{numberBytes, numberBytesOf}
 use Rattle.wire.proofs.Numbers.{numbers-length, zeros-bytes}

@@ -15,10 +15,13 @@ kindAt = eventBytes
 abbrev pub numbersAt : ℕ
 numbersAt = 8
 
--- ---- a request: reserved bytes from byte 5 on, then nine numbers and three
+-- ---- a request: the way, reserved bytes, then nine numbers and three
 
 abbrev pub wayAt : ℕ
 wayAt = 5
+
+abbrev pub reservedAt : ℕ
+reservedAt = 6
 
 abbrev pub nineAt : ℕ
 nineAt = numbersAt

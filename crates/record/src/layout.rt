@@ -10,6 +10,8 @@ pub(crate) const NUMBERS_AT: usize = 8;
 // ---- a request
 pub(crate) const WAY_AT: usize = 5;
 
+pub(crate) const RESERVED_AT: usize = 6;
+
 pub(crate) const THREE_AT: usize = NUMBERS_AT + 9 * NUMBER_SIZE;
 
 pub const REQUEST_SIZE: usize = THREE_AT + 3 * NUMBER_SIZE;

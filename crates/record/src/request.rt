@@ -2,17 +2,19 @@
 use crate::layout::KIND_AT;
 use crate::layout::NUMBERS_AT;
 use crate::layout::REQUEST_SIZE;
+use crate::layout::RESERVED_AT;
 use crate::layout::THREE_AT;
 use crate::layout::WAY_AT;
 use float::sign::all_finite;
 use float::width::NUMBER_SIZE;
 use float::width::Real;
+use kinds::table::has_way;
 use kinds::table::is_known;
 use kinds::table::kind_numbered;
+use kinds::ways::work;
 use kinds::work::Asked;
 use kinds::work::Worked;
 use kinds::work::refused;
-use kinds::work::work;
 use matrix::codes::DONE;
 use matrix::codes::INPUT_LENGTH;
 use matrix::codes::INPUT_NOT_FINITE;
@@ -39,7 +41,7 @@ fn unused_zero(s: &[u8], kind: u8) -> bool
     let k = kind_numbered(kind);
     let n = k.nine;
     let t = k.three;
-    if zeros_in(s, WAY_AT, NUMBERS_AT) {
+    if zeros_in(s, RESERVED_AT, NUMBERS_AT) {
         if zeros_in(s, NUMBERS_AT + NUMBER_SIZE * n, THREE_AT) {
             return zeros_in(s, THREE_AT + NUMBER_SIZE * t, REQUEST_SIZE);
         }
@@ -52,9 +54,12 @@ fn form_of(s: &[u8]) -> u8
     ensures { λ r. ⌜ r ≡ formOf F (now (s .entry)) ⌝ }
 {
     let kind = s[KIND_AT];
+    let way = s[WAY_AT];
     if is_known(kind) {
-        if unused_zero(s, kind) {
-            return DONE;
+        if has_way(kind, way) {
+            if unused_zero(s, kind) {
+                return DONE;
+            }
         }
         return RESERVED;
     }

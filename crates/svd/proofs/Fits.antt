@@ -1,5 +1,5 @@
--- Each value of an answer is a value of the format: it is the magnitude of a number of the matrix that was given, or of what an operation gave, and an operation
--- gives no other.
+-- Each value of an answer is a value of the format: it is the magnitude of a number of the matrix that was given, or of what an operation gave, and an
+-- operation gives no other.
 use Rattle.float.proofs.Words.{_≡_, subst, List, [], _∷_, ℕ, zero, suc, arith, T, length, Float, Format, fits}
 use lib.Ieee.Fits.{add-fits, sub-fits}
 use Rattle.float.specs.Sign.{magnitudeOf}

@@ -5,7 +5,7 @@ use Rattle.kinds.specs.Table.{kindNumbered}
 use Rattle.kinds.specs.declared.table.Kind.{Kind}
 use Rattle.kinds.proofs.Rows.{nine-most, three-most}
 use Rattle.wire.specs.Bytes.{placeOf, zeroFrom}
-use Rattle.record.specs.Layout.{wayAt, nineAt, threeAt, requestSize}
+use Rattle.record.specs.Layout.{reservedAt, nineAt, threeAt, requestSize}
 use Rattle.record.proofs.request.unused_zero.Statement.{statement}
 use Rattle.record.proofs.request.unused_zero.Tie as tie
 
@@ -19,7 +19,7 @@ returns : tie.Need-returns
 returns c =
     let k = c .before .before .before .before .before in
     let a = k .before .before .args in
-    let reserved : zeroFrom wayAt nineAt (a .s .now) ≡ true =
+    let reserved : zeroFrom reservedAt nineAt (a .s .now) ≡ true =
     sym (c .before .before .before .before .zeros-in .ensures) ∙ c .before .before .before .if1 .taken in
     let nine : zeroFrom (placeOf F nineAt (kindNumbered (a .kind) .nine)) (threeAt F) (a .s .now) ≡ true =
     ap (λ (k : Kind). zeroFrom (placeOf F nineAt (k .nine)) (threeAt F) (a .s .now)) (sym (k .kind-numbered .ensures))
@@ -32,7 +32,7 @@ returns-2 : tie.Need-returns-2
 returns-2 c =
     let k = c .before .before .before .before in
     let a = k .before .before .args in
-    let reserved : zeroFrom wayAt nineAt (a .s .now) ≡ true = sym (c .before .before .before .zeros-in .ensures) ∙ c .before .before .if1 .taken in
+    let reserved : zeroFrom reservedAt nineAt (a .s .now) ≡ true = sym (c .before .before .before .zeros-in .ensures) ∙ c .before .before .if1 .taken in
     let nine : zeroFrom (placeOf F nineAt (kindNumbered (a .kind) .nine)) (threeAt F) (a .s .now) ≡ false =
     ap (λ (k : Kind). zeroFrom (placeOf F nineAt (k .nine)) (threeAt F) (a .s .now)) (sym (k .kind-numbered .ensures))
     ∙ sym (c .before .zeros-in2 .ensures)
