@@ -26,7 +26,7 @@ static const struct code codes[] = {
     {ZANIKORY_CODE_INPUT_LENGTH, "an input has a wrong length"},
     {ZANIKORY_CODE_OUTPUT_LENGTH, "the answer has a wrong length"},
     {ZANIKORY_CODE_UNKNOWN_KIND, "the kind is not 1 to 8"},
-    {ZANIKORY_CODE_RESERVED, "a reserved byte or an unused number is not zero"},
+    {ZANIKORY_CODE_RESERVED, "a reserved byte, unused number or way is wrong"},
     {ZANIKORY_CODE_INPUT_NOT_FINITE, "an input number is not finite"},
     {ZANIKORY_CODE_PIVOT, "a pivot is at most zero"},
     {ZANIKORY_CODE_ANSWER_NOT_FINITE, "a number of the answer is not finite"},

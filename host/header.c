@@ -27,17 +27,18 @@ static uint8_t request_left[ROOM], answer_left[ROOM]; /* what must stand there a
 struct kind {
     uint8_t number;
     size_t nine, three; /* how many it uses */
+    uint8_t last_way;   /* it has this one and those below */
 };
 
 static const struct kind kinds[] = {
-    {ZANIKORY_KIND_EIGEN_2X2, 3, 0},
-    {ZANIKORY_KIND_EIGEN_3X3, 6, 0},
-    {ZANIKORY_KIND_SVD_2X2, 4, 0},
-    {ZANIKORY_KIND_SVD_3X3, 9, 0},
-    {ZANIKORY_KIND_CHOLESKY_2X2, 3, 0},
-    {ZANIKORY_KIND_CHOLESKY_3X3, 6, 0},
-    {ZANIKORY_KIND_FACTOR_AND_SOLVE_2X2, 3, 2},
-    {ZANIKORY_KIND_FACTOR_AND_SOLVE_3X3, 6, 3},
+    {ZANIKORY_KIND_EIGEN_2X2, 3, 0, ZANIKORY_WAY_OLD},
+    {ZANIKORY_KIND_EIGEN_3X3, 6, 0, ZANIKORY_WAY_OLD},
+    {ZANIKORY_KIND_SVD_2X2, 4, 0, ZANIKORY_WAY_OLD},
+    {ZANIKORY_KIND_SVD_3X3, 9, 0, ZANIKORY_WAY_OLD},
+    {ZANIKORY_KIND_CHOLESKY_2X2, 3, 0, 0},
+    {ZANIKORY_KIND_CHOLESKY_3X3, 6, 0, 0},
+    {ZANIKORY_KIND_FACTOR_AND_SOLVE_2X2, 3, 2, 0},
+    {ZANIKORY_KIND_FACTOR_AND_SOLVE_3X3, 6, 3, 0},
 };
 
 enum { KINDS = sizeof kinds / sizeof kinds[0], NUMBERS = 12 };
@@ -82,7 +83,7 @@ static struct expected wrong_length(void)
 static struct expected refused(const struct request *r, uint8_t code)
 {
     struct expected e = {code, ZANIKORY_ANSWER_SIZE, {0}};
-    memcpy(e.answer, r->bytes, ZANIKORY_REQUEST_RESERVED_AT);
+    memcpy(e.answer, r->bytes, ZANIKORY_REQUEST_WAY_AT);
     e.answer[ZANIKORY_ANSWER_CODE_AT] = code;
     return e;
 }
@@ -211,6 +212,78 @@ static int kind_bytes(void)
     return end(&known) + end(&unknown);
 }
 
+/* Each way of each kind is answered. Every other byte there is refused with 4, and every byte but 0 in a
+   reserved place. */
+static int way_bytes(void)
+{
+    struct tried known = begin("0: each way of each kind");
+    struct tried unknown = begin("4: each other way, and reserved bytes");
+    for (size_t k = 0; k < KINDS; k++)
+        for (size_t at = ZANIKORY_REQUEST_WAY_AT; at < ZANIKORY_REQUEST_NINE_AT; at++)
+            for (unsigned byte = at > ZANIKORY_REQUEST_WAY_AT; byte < 256; byte++) {
+                int is_known = at == ZANIKORY_REQUEST_WAY_AT && byte <= kinds[k].last_way;
+                struct request r = good(&kinds[k]);
+                r.bytes[at] = (uint8_t)byte;
+                struct expected e = refused(&r, ZANIKORY_CODE_RESERVED);
+                if (is_known) {
+                    e.code = ZANIKORY_CODE_DONE;
+                    zanikory_answer_record(r.bytes, sizeof r.bytes, e.answer, sizeof e.answer);
+                }
+                call(is_known ? &known : &unknown, &r, ZANIKORY_REQUEST_SIZE, ZANIKORY_ANSWER_SIZE, &e);
+            }
+    return end(&known) + end(&unknown);
+}
+
+/* A request with its numbers times a power of two. */
+static struct request in_unit(struct request r, double unit)
+{
+    double nine[9];
+    memcpy(nine, r.bytes + ZANIKORY_REQUEST_NINE_AT, sizeof nine);
+    for (size_t i = 0; i < 9; i++)
+        nine[i] *= unit;
+    memcpy(r.bytes + ZANIKORY_REQUEST_NINE_AT, nine, sizeof nine);
+    return r;
+}
+
+static const double units[] = {0x1p-1021, 0x1p-200, 0x1p-47, 0x1p-1, 0x1p60, 0x1p1019};
+
+/* In the scaled way the answer to a matrix in another unit has its values in that unit, and is else the
+   same, bit for bit. The products here are exact. */
+static int each_unit(void)
+{
+    struct tried tried = begin("0: the same matrix in other units, scaled");
+    for (size_t k = 0; k < KINDS; k++)
+        for (size_t i = 0; kinds[k].last_way > 0 && i < sizeof units / sizeof units[0]; i++) {
+            struct request r = good(&kinds[k]), other = in_unit(r, units[i]);
+            struct expected e = {ZANIKORY_CODE_DONE, ZANIKORY_ANSWER_SIZE, {0}};
+            double values[3];
+            zanikory_answer_record(r.bytes, sizeof r.bytes, e.answer, sizeof e.answer);
+            memcpy(values, e.answer + ZANIKORY_ANSWER_VALUES_AT, sizeof values);
+            for (size_t v = 0; v < 3; v++)
+                values[v] *= units[i];
+            memcpy(e.answer + ZANIKORY_ANSWER_VALUES_AT, values, sizeof values);
+            call(&tried, &other, ZANIKORY_REQUEST_SIZE, ZANIKORY_ANSWER_SIZE, &e);
+        }
+    return end(&tried);
+}
+
+/* The largest double in all places: the largest value is twice that, or more. */
+static int overflows(void)
+{
+    struct tried tried = begin("7: a value that overflows when it is multiplied back");
+    for (size_t k = 0; k < KINDS; k++)
+        if (kinds[k].last_way > 0) {
+            struct request r = good(&kinds[k]);
+            for (size_t i = 0; i < kinds[k].nine; i++) {
+                const double largest = 0x1.fffffffffffffp1023;
+                memcpy(r.bytes + ZANIKORY_REQUEST_NINE_AT + i * 8, &largest, sizeof largest);
+            }
+            struct expected e = refused(&r, ZANIKORY_CODE_ANSWER_NOT_FINITE);
+            call(&tried, &r, ZANIKORY_REQUEST_SIZE, ZANIKORY_ANSWER_SIZE, &e);
+        }
+    return end(&tried);
+}
+
 struct refused_pivot {
     double matrix[6];
     uint8_t code, number;
@@ -241,7 +314,7 @@ static int pivots(void)
 }
 
 struct marked {
-    uint8_t kind;
+    uint8_t kind, way;
     double nine[9];
     uint8_t rotations, settled;
 };
@@ -250,22 +323,29 @@ struct marked {
 
 /* A blind rotation of each kind, and what is next to one: equal diagonal numbers, a diagonal number of 2^-52,
    nothing off the diagonal. Kind 3 also has a blind one whose matrix has 1 and -1 on the diagonal, and one
-   that sees, of a matrix with tiny numbers there: the symmetrised pair counts. */
+   that sees, of a matrix with tiny numbers there: the symmetrised pair counts. The largest number of these is
+   1, which both ways work as it is. Then what only the old way leaves, with the same in the scaled way: 25
+   rotations that do not settle a large tensor, a blind rotation and none at all of a tiny one. */
 static const struct marked marked[] = {
-    {ZANIKORY_KIND_EIGEN_2X2, {0, 1, TINY}, 0, 0},
-    {ZANIKORY_KIND_EIGEN_2X2, {0, 1, -0.0}, 0, 1},
-    {ZANIKORY_KIND_EIGEN_2X2, {TINY, 1, TINY}, 0, 1},
-    {ZANIKORY_KIND_EIGEN_2X2, {0, 1, 0x1p-52}, 0, 1},
-    {ZANIKORY_KIND_EIGEN_2X2, {0, 0, TINY}, 0, 1},
-    {ZANIKORY_KIND_EIGEN_3X3, {0, 1, TINY, 0, 0, TINY}, 1, 0},
-    {ZANIKORY_KIND_EIGEN_3X3, {0, 1, 0, 0, 0, TINY}, 1, 1},
-    {ZANIKORY_KIND_EIGEN_3X3, {0x1p30, 0x1p-24, 0x1p30, 0x1p-24, 0, 0x1p30}, 25, 0},
-    {ZANIKORY_KIND_SVD_2X2, {0, 1, 1, TINY}, 0, 0},
-    {ZANIKORY_KIND_SVD_2X2, {0, 1, 1, 0}, 0, 1},
-    {ZANIKORY_KIND_SVD_2X2, {-1, 0, -TINY, 1}, 0, 0},
-    {ZANIKORY_KIND_SVD_2X2, {0, 1, -1, TINY}, 0, 1},
-    {ZANIKORY_KIND_SVD_3X3, {0, 1, 0, 1, TINY, 0, 0, 0, TINY}, 1, 0},
-    {ZANIKORY_KIND_SVD_3X3, {0, 1, 0, 1, 0, 0, 0, 0, TINY}, 1, 1},
+    {ZANIKORY_KIND_EIGEN_2X2, 0, {0, 1, TINY}, 0, 0},
+    {ZANIKORY_KIND_EIGEN_2X2, 0, {0, 1, -0.0}, 0, 1},
+    {ZANIKORY_KIND_EIGEN_2X2, 0, {TINY, 1, TINY}, 0, 1},
+    {ZANIKORY_KIND_EIGEN_2X2, 0, {0, 1, 0x1p-52}, 0, 1},
+    {ZANIKORY_KIND_EIGEN_2X2, 0, {0, 0, TINY}, 0, 1},
+    {ZANIKORY_KIND_EIGEN_3X3, 0, {0, 1, TINY, 0, 0, TINY}, 1, 0},
+    {ZANIKORY_KIND_EIGEN_3X3, 0, {0, 1, 0, 0, 0, TINY}, 1, 1},
+    {ZANIKORY_KIND_SVD_2X2, 0, {0, 1, 1, TINY}, 0, 0},
+    {ZANIKORY_KIND_SVD_2X2, 0, {0, 1, 1, 0}, 0, 1},
+    {ZANIKORY_KIND_SVD_2X2, 0, {-1, 0, -TINY, 1}, 0, 0},
+    {ZANIKORY_KIND_SVD_2X2, 0, {0, 1, -1, TINY}, 0, 1},
+    {ZANIKORY_KIND_SVD_3X3, 0, {0, 1, 0, 1, TINY, 0, 0, 0, TINY}, 1, 0},
+    {ZANIKORY_KIND_SVD_3X3, 0, {0, 1, 0, 1, 0, 0, 0, 0, TINY}, 1, 1},
+    {ZANIKORY_KIND_EIGEN_3X3, ZANIKORY_WAY_OLD, {0x1p30, 0x1p-24, 0x1p30, 0x1p-24, 0, 0x1p30}, 25, 0},
+    {ZANIKORY_KIND_EIGEN_3X3, ZANIKORY_WAY_SCALED, {0x1p30, 0x1p-24, 0x1p30, 0x1p-24, 0, 0x1p30}, 0, 1},
+    {ZANIKORY_KIND_EIGEN_2X2, ZANIKORY_WAY_OLD, {TINY, TINY, 2 * TINY}, 0, 0},
+    {ZANIKORY_KIND_EIGEN_2X2, ZANIKORY_WAY_SCALED, {TINY, TINY, 2 * TINY}, 0, 1},
+    {ZANIKORY_KIND_EIGEN_3X3, ZANIKORY_WAY_OLD, {TINY, TINY, 2 * TINY, 0, 0, TINY}, 0, 1},
+    {ZANIKORY_KIND_EIGEN_3X3, ZANIKORY_WAY_SCALED, {TINY, TINY, 2 * TINY, 0, 0, TINY}, 1, 1},
 };
 
 /* Answers with code 0, settled and not. */
@@ -275,6 +355,7 @@ static int marks(void)
     for (size_t i = 0; i < sizeof marked / sizeof marked[0]; i++) {
         struct request r = good(&kinds[marked[i].kind - kinds[0].number]);
         struct expected e = {ZANIKORY_CODE_DONE, ZANIKORY_ANSWER_SIZE, {0}};
+        r.bytes[ZANIKORY_REQUEST_WAY_AT] = marked[i].way;
         memcpy(r.bytes + ZANIKORY_REQUEST_NINE_AT, marked[i].nine, sizeof marked[i].nine);
         zanikory_answer_record(r.bytes, sizeof r.bytes, e.answer, sizeof e.answer);
         e.answer[ZANIKORY_ANSWER_ROTATIONS_AT] = marked[i].rotations;
@@ -334,7 +415,8 @@ static int row_example(void)
 
 int main(void)
 {
-    int wrong = lengths() + example() + kind_bytes() + not_finite() + pivots() + marks();
+    int wrong = lengths() + example() + kind_bytes() + way_bytes() + each_unit() + overflows();
+    wrong += not_finite() + pivots() + marks();
     wrong += factors() + row_example();
     printf("%d wrong\n", wrong);
     return wrong != 0;

@@ -40,7 +40,7 @@ static double matrices[PLACES][9];
 static struct zanikory_svd_3x3_answer alone[PLACES];
 
 /* The code and the numbers by the entry on doubles, where a refusal leaves zeros; rotations and mark by the one
-   on records, which has zeros for them too. */
+   on records, which has zeros for them too. In the old way it works a matrix as it is given, as a row does. */
 static struct place answered_alone(const double matrix[9])
 {
     struct place place;
@@ -55,6 +55,7 @@ static struct place answered_alone(const double matrix[9])
     memcpy(answer->v, numbers + 12, sizeof answer->v);
     memcpy(answer->worked, numbers + 21, sizeof answer->worked);
     request[ZANIKORY_REQUEST_KIND_AT] = ZANIKORY_KIND_SVD_3X3;
+    request[ZANIKORY_REQUEST_WAY_AT] = ZANIKORY_WAY_OLD;
     memcpy(request + ZANIKORY_REQUEST_NINE_AT, matrix, sizeof place.matrix);
     zanikory_answer_record(request, sizeof request, record, sizeof record);
     answer->rotations = record[ZANIKORY_ANSWER_ROTATIONS_AT];

@@ -30,10 +30,12 @@ enum zanikory_code {
     ZANIKORY_CODE_INPUT_LENGTH = 1,      /* an input has a wrong length */
     ZANIKORY_CODE_OUTPUT_LENGTH = 2,     /* what is to be written has a wrong length */
     ZANIKORY_CODE_UNKNOWN_KIND = 3,      /* the kind of a request is not 1 to 8 */
-    ZANIKORY_CODE_RESERVED = 4,          /* a reserved byte or an unused number is not all zero bits */
+    ZANIKORY_CODE_RESERVED = 4,          /* a reserved byte or an unused number is not all zero bits, or the
+                                            kind has no such way */
     ZANIKORY_CODE_INPUT_NOT_FINITE = 5,  /* a used input number is NaN or infinite */
     ZANIKORY_CODE_PIVOT = 6,             /* a pivot is at most zero */
-    ZANIKORY_CODE_ANSWER_NOT_FINITE = 7, /* a number of the answer is NaN or infinite */
+    ZANIKORY_CODE_ANSWER_NOT_FINITE = 7, /* a number of the answer is NaN or infinite, as is a value that
+                                            overflows when it is multiplied back */
     ZANIKORY_CODE_NAN_PIVOT = 9,         /* a pivot is NaN */
     ZANIKORY_CODE_ROWS_UNEQUAL = 10,     /* rows of unequal length */
     ZANIKORY_CODE_ROW_TOO_LONG = 11,     /* a row of more than 64 places */
@@ -48,10 +50,10 @@ enum zanikory_code {
    A request:                                      An answer:
      0..4     event number, uint32_t                 0..4      event number, the request's
      4        kind                                   4         kind, the request's
-     5..8     reserved, zero                         5         code
-     8..80    nine doubles                           6         rotations, or the pivot's number
-     80..104  three doubles                          7         settled
-                                                     8..32     values, three doubles
+     5        way                                    5         code
+     6..8     reserved, zero                         6         rotations, or the pivot's number
+     8..80    nine doubles                           7         settled
+     80..104  three doubles                          8..32     values, three doubles
                                                      32..104   left, nine doubles
                                                      104..176  right, nine doubles
 
@@ -68,12 +70,14 @@ enum zanikory_code {
    kind 2 or 4, and the numbers are those of the 25th; or a rotation of kinds 1 to 4 was blind. It is blind
    if its off-diagonal number is not 0, and its two diagonal numbers differ (0 and -0 do not) and are both
    under 2^-52 in magnitude: it turns by 45 degrees whatever they are, so something is left off the diagonal.
-   For kinds 3 and 4 these are the numbers of the symmetrised pair. */
+   For kinds 3 and 4 these are the numbers of the symmetrised pair. In the scaled way all this is said of the
+   scaled matrix. */
 
 #define ZANIKORY_REQUEST_SIZE 104
 #define ZANIKORY_REQUEST_EVENT_AT 0
 #define ZANIKORY_REQUEST_KIND_AT 4
-#define ZANIKORY_REQUEST_RESERVED_AT 5
+#define ZANIKORY_REQUEST_WAY_AT 5
+#define ZANIKORY_REQUEST_RESERVED_AT 6
 #define ZANIKORY_REQUEST_NINE_AT 8
 #define ZANIKORY_REQUEST_THREE_AT 80
 
@@ -99,6 +103,24 @@ enum zanikory_kind {
     ZANIKORY_KIND_CHOLESKY_3X3 = 6,         /* 6, 0: the same */
     ZANIKORY_KIND_FACTOR_AND_SOLVE_2X2 = 7, /* 3, 2: the factor left, the solution in values */
     ZANIKORY_KIND_FACTOR_AND_SOLVE_3X3 = 8  /* 6, 3: the same */
+};
+
+/* The way in which a matrix of kinds 1 to 4 is worked, byte 5 of a request.
+
+   In the scaled way, the default, the used numbers are divided by the power of two that brings the largest
+   magnitude among them into 1 up to, but not including, 2. That matrix is worked, and the values are
+   multiplied back by the same power. Both steps round each number once. So a matrix in any unit is worked as
+   exactly as one near 1. A zero matrix is not scaled. Vectors, rotations and the mark are those of the
+   scaled matrix. A value that overflows when it is multiplied back gives 7.
+
+   In the old way the matrix is worked as it is given, by the same steps. What counts as nothing is then under
+   2^-44, and what a rotation does not look at is under 2^-52, whatever the unit is.
+
+   The other kinds have the way 0 alone, and are not scaled. The calls below, on doubles and on rows, have no
+   way: they work a matrix as it is given. */
+enum zanikory_way {
+    ZANIKORY_WAY_SCALED = 0,
+    ZANIKORY_WAY_OLD = 1
 };
 
 /* Answers one request, and gives the code. It is byte 5 of the answer too, unless it is 2. What it leaves:
@@ -183,7 +205,7 @@ uint8_t zanikory_svd_3x3(const double *a, size_t a_length, double *out, size_t o
 struct zanikory_svd_3x3_answer {
     uint8_t code;      /* of this matrix: 0, 5 or 7; with 5 and 7 all the rest is 0 */
     uint8_t rotations; /* at most 25 */
-    uint8_t settled;   /* as byte 7 of a record */
+    uint8_t settled;   /* as byte 7 of a record in the old way */
     uint8_t zero[5];
     double values[3];             /* descending */
     double u[9], v[9], worked[9]; /* column by column; the last is the matrix after the last rotation */

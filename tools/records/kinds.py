@@ -1,4 +1,4 @@
-"""The eight kinds of request and the codes of an answer, each named once."""
+"""The eight kinds of request, their ways and the codes of an answer, each named once."""
 from typing import NamedTuple, Tuple
 
 
@@ -18,6 +18,11 @@ class Kind(NamedTuple):
     def makes_rotations(self):
         """Whether it is answered by rotations, so that byte 7 can say that they left something."""
         return self.job in ('eigen', 'svd')
+
+    @property
+    def has_old_way(self):
+        """Whether byte 5 of a request can choose: its matrix is scaled, or worked as it is given."""
+        return self.makes_rotations
 
     @property
     def counts_rotations(self):
@@ -44,6 +49,9 @@ KINDS = (
 BY_NUMBER = {kind.number: kind for kind in KINDS}
 BY_NAME = {kind.name: kind for kind in KINDS}
 
+# byte 5 of a request
+DEFAULT_WAY, OLD_WAY = 0, 1
+
 ANSWERED, WRONG_LENGTH, UNKNOWN_KIND, BAD_PIVOT, NOT_FINITE, NAN_PIVOT = 0, 1, 3, 6, 7, 9
 
 # With these byte 6 has the number of the refused pivot.
@@ -54,7 +62,7 @@ MEANINGS = {
     ANSWERED: 'answered',
     WRONG_LENGTH: 'the request has the wrong length',
     UNKNOWN_KIND: 'the kind is not 1 to 8',
-    4: 'a reserved byte or an unused number is not all zero bits',
+    4: 'a reserved byte or an unused number is not all zero bits, or the kind has no such way',
     5: 'a used number of the request is NaN or infinite',
     BAD_PIVOT: f'a pivot {PIVOT_FAULTS[BAD_PIVOT]}',
     NOT_FINITE: 'a number of the answer or of the worked matrix is NaN or infinite',

@@ -4,13 +4,16 @@ import io
 import struct
 from typing import List, NamedTuple
 
-from records.kinds import BY_NAME, BY_NUMBER, KINDS, LARGEST_EVENT
+from records.kinds import BY_NAME, BY_NUMBER, DEFAULT_WAY, KINDS, LARGEST_EVENT, OLD_WAY
 from records.numbers import BadNumber, read_number
 
-# event number, kind, three reserved bytes, nine numbers and three
-LAYOUT = struct.Struct('<IB3x12d')
+# event number, kind, way, two reserved bytes, nine numbers and three
+LAYOUT = struct.Struct('<IBB2x12d')
 MATRIX_PLACES = 9
 RIGHT_SIDE_PLACES = 3
+
+# behind the kind, in a request that is to be worked in the old way
+OLD = 'old'
 
 
 class Line(NamedTuple):
@@ -60,6 +63,13 @@ def read_kind(word):
     raise BadNumber(f'kind {word!r} is unknown: write one of {names}, or a number from 1 to 8')
 
 
+def read_way(kind, words, old_way):
+    """The way of a request, the words behind it, and the reasons why the kind does not have it."""
+    if words and words[0].lower() == OLD:
+        return OLD_WAY, words[1:], [] if kind.has_old_way else [f'{kind.name} has no old way: leave out {words[0]!r}']
+    return (OLD_WAY if old_way and kind.has_old_way else DEFAULT_WAY), words, []
+
+
 def read_numbers(kind, words):
     """The numbers of a request, and the reasons why some of the words are none."""
     numbers, reasons = [], []
@@ -74,35 +84,39 @@ def read_numbers(kind, words):
     return numbers, reasons
 
 
-def pack(event, kind, numbers):
+def pack(event, kind, way, numbers):
     """The bytes of a request. Places that the kind does not use are zero."""
     matrix, right_side = numbers[:len(kind.matrix)], numbers[len(kind.matrix):]
     matrix = matrix + [0.0] * (MATRIX_PLACES - len(matrix))
     right_side = right_side + [0.0] * (RIGHT_SIDE_PLACES - len(right_side))
-    return LAYOUT.pack(event, kind.number, *matrix, *right_side)
+    return LAYOUT.pack(event, kind.number, way, *matrix, *right_side)
 
 
-def read_line(line):
+def read_line(line, old_way):
     """A line's request as bytes, or None, and the reasons why it is none."""
     if len(line.words) < 2:
         return None, ['a line is: event number, kind, numbers']
-    event, kind, numbers, reasons = None, None, [], []
+    event, kind, way, numbers, reasons = None, None, DEFAULT_WAY, [], []
+    # a cell of CSV can have the kind and the word behind it
+    name, *words = line.words[1].split() or ['']
     try:
         event = read_event(line.words[0])
     except BadNumber as e:
         reasons.append(str(e))
     try:
-        kind = read_kind(line.words[1])
+        kind = read_kind(name)
     except BadNumber as e:
         reasons.append(str(e))
     else:
-        numbers, more = read_numbers(kind, line.words[2:])
-        reasons += more
-    return (None if reasons else pack(event, kind, numbers)), reasons
+        way, words, faults = read_way(kind, words + line.words[2:], old_way)
+        numbers, more = read_numbers(kind, words)
+        reasons += faults + more
+    return (None if reasons else pack(event, kind, way, numbers)), reasons
 
 
-def read_list(text, is_csv):
-    """All requests of a list, as bytes, and all faults. With a fault the bytes are no answer to the list."""
+def read_list(text, is_csv, old_way=False):
+    """All requests of a list, as bytes, and all faults. With a fault the bytes are no answer to the list. With old_way each request
+    of a kind that has an old way is in that way."""
     requests, faults = bytearray(), []
     lines = csv_lines(text) if is_csv else text_lines(text)
     try:
@@ -111,7 +125,7 @@ def read_list(text, is_csv):
             if [word.lower() for word in header.words[:2]] != ['event', 'kind']:
                 faults.append(Fault(1, 'the header of a CSV list begins with: event,kind'))
         for line in lines:
-            request, reasons = read_line(line)
+            request, reasons = read_line(line, old_way)
             faults += [Fault(line.number, reason) for reason in reasons]
             requests += request or b''
     except csv.Error as e:
