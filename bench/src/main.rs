@@ -56,6 +56,7 @@ fn measured(words: &[&str], machine: &str) -> Result<(), String> {
     kernels::all(&mut tell)?;
     records::codec(&mut tell)?;
     records::all(&mut tell)?;
+    records::ways(&mut tell)?;
     tallies::all(&mut tell)?;
     let files = programs::all(program, &mut |line| println!("{line}, {machine}"))?;
     if write {

@@ -24,10 +24,11 @@ const OURS: &str = "#b5541c";
 const THEIRS: &str = "#2f6f9f";
 
 /// What ours is held beside, the colour of its bars, and what it is.
-const BESIDES: [(&str, &str, &str); 6] = [
+const BESIDES: [(&str, &str, &str); 7] = [
     ("hardware", "#7a7a7a", "the processor's root"),
     ("crate", "#b5541c", "the crate's kernel"),
     ("single", "#c79a2b", "calls on one matrix"),
+    ("old way", "#3f8f8f", "our record in the old way"),
     ("oracle", "#2f6f9f", "the oracle"),
     ("straight", "#5f9f6f", "written straight in Rust"),
     ("reading", "#8f6fa0", "reading the file"),
@@ -102,11 +103,11 @@ fn scale(bottom: f64) -> String {
     drawn + &text(across(4.0), bottom + 36.0, "middle", 12, words)
 }
 
-/// Two lines of three.
+/// Two lines of four.
 fn legend() -> String {
     let mut drawn = String::new();
     for (i, (_, colour, what)) in BESIDES.iter().enumerate() {
-        let (x, y) = (20.0 + 178.0 * (i % 3) as f64, 42.0 + 18.0 * (i / 3) as f64);
+        let (x, y) = (20.0 + 178.0 * (i % 4) as f64, 42.0 + 18.0 * (i / 4) as f64);
         drawn +=
             &format!("<rect x=\"{x}\" y=\"{y}\" width=\"12\" height=\"12\" fill=\"{colour}\"/>\n");
         drawn += &text(x + 18.0, y + 11.0, "start", 12, what);

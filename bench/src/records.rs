@@ -1,4 +1,5 @@
-//! Whole records, from a request's bytes to the answer's: the C entry beside the oracle's reference.
+//! Whole records, from a request's bytes to the answer's: the C entry beside the oracle's reference; and a record in the scaled way
+//! beside one in the old way, both by the C entry.
 
 use crate::race::{race, Race};
 use crate::straight;
@@ -6,7 +7,7 @@ use reference::cholesky::NAN_PIVOTS;
 use reference::kinds::KINDS;
 use reference::nights;
 use reference::random::Random;
-use reference::record::{answer, Request, ANSWER_BYTES, CODE_AT, REQUEST_BYTES};
+use reference::record::{answer, Request, ANSWER_BYTES, CODE_AT, NUMBERS_AT, REQUEST_BYTES};
 use std::hint::black_box;
 
 /// So many requests are answered in a turn.
@@ -14,6 +15,16 @@ const REQUESTS: usize = 4096;
 
 /// The program answers so many after a read, into one and the same room.
 const AT_ONCE: usize = 372;
+
+/// Where a request has its way, and that of a matrix that is worked as it is given.
+const WAY_AT: usize = 5;
+const OLD_WAY: u8 = 1;
+
+/// The first of the kinds have both ways.
+const SCALED_KINDS: u8 = 4;
+
+/// The unit of the tiny matrices: it brings what is near 1 to about 1e-14.
+const TINY: f64 = 1.0 / (1u64 << 47) as f64;
 
 /// Takes a request's bytes and their count, and writes the answer's.
 type Step = unsafe extern "C" fn(*const u8, usize, *mut u8, usize) -> u8;
@@ -91,6 +102,10 @@ const STRAIGHT: Beside = Beside {
     step: straight_step,
 };
 
+fn bytes_of(requests: &[Request]) -> Vec<u8> {
+    requests.iter().flat_map(Request::bytes).collect()
+}
+
 /// All bytes of all answers are compared before the clock runs, since to look at 176 bytes takes as long
 /// as to write them; in each round it is the codes. `code` is that of every answer.
 fn race_of_records(
@@ -99,7 +114,7 @@ fn race_of_records(
     code: u8,
     requests: &[Request],
 ) -> Result<Race, String> {
-    let bytes: Vec<u8> = requests.iter().flat_map(Request::bytes).collect();
+    let bytes = bytes_of(requests);
     let mut ours = vec![1; requests.len() * ANSWER_BYTES];
     let mut theirs = vec![2; requests.len() * ANSWER_BYTES];
     let codes = answer_all(zanikory_answer_record, &bytes, &mut ours);
@@ -128,9 +143,11 @@ fn of_a_night(random: &mut Random, kind: u8) -> Request {
 
 /// So many requests that are answered with 0, by whatever makes any.
 fn all_done(count: usize, make: impl FnMut() -> Request) -> Vec<Request> {
-    let done = |request: &Request| answer(&request.bytes())[CODE_AT] == 0;
+    let mut room = [0; ANSWER_BYTES];
+    let mut done =
+        |request: &Request| answer_all(zanikory_answer_record, &request.bytes(), &mut room) == 0;
     let any = std::iter::repeat_with(make);
-    any.filter(done).take(count).collect()
+    any.filter(|request| done(request)).take(count).collect()
 }
 
 /// A night's requests, each of any kind.
@@ -166,6 +183,69 @@ pub fn all(tell: &mut dyn FnMut(Race)) -> Result<(), String> {
         9,
         &nan_pivot,
     )?);
+    Ok(())
+}
+
+/// A night's request with its matrix divided by the power of two under its largest magnitude, so that both ways work the same matrix.
+fn near_one(mut request: Request) -> Request {
+    let nine = request.nine.map(f64::from_bits);
+    let largest = nine
+        .iter()
+        .fold(0.0, |largest: f64, x| largest.max(x.abs()));
+    let power = f64::from_bits(largest.to_bits() >> 52 << 52);
+    request.nine = nine.map(|x| (x / power).to_bits());
+    request
+}
+
+/// The same in another unit.
+fn in_unit(request: &Request, unit: f64) -> Request {
+    let nine = request.nine.map(|x| (f64::from_bits(x) * unit).to_bits());
+    Request { nine, ..*request }
+}
+
+/// Requests' bytes in the old way.
+fn in_the_old_way(requests: &[Request]) -> Vec<u8> {
+    let mut bytes = bytes_of(requests);
+    for request in bytes.chunks_exact_mut(REQUEST_BYTES) {
+        request[WAY_AT] = OLD_WAY;
+    }
+    bytes
+}
+
+/// Matrices near 1 times a unit in the scaled way, beside the same near 1 in the old way, so that both make the same rotations. The
+/// answers are compared before the clock runs: they are the same, but for the unit of the values.
+fn race_of_ways(what: &str, requests: &[Request], unit: f64) -> Result<Race, String> {
+    const BESIDE: &str = "old way";
+    let given: Vec<Request> = requests.iter().map(|one| in_unit(one, unit)).collect();
+    let (scaled, old) = (bytes_of(&given), in_the_old_way(requests));
+    let mut ours = vec![1; requests.len() * ANSWER_BYTES];
+    let mut theirs = vec![2; requests.len() * ANSWER_BYTES];
+    let codes = answer_all(zanikory_answer_record, &scaled, &mut ours);
+    answer_all(zanikory_answer_record, &old, &mut theirs);
+    for place in theirs.chunks_exact_mut(ANSWER_BYTES) {
+        for value in place[NUMBERS_AT..NUMBERS_AT + 3 * 8].chunks_exact_mut(8) {
+            let x = f64::from_le_bytes((&*value).try_into().expect("eight bytes"));
+            value.copy_from_slice(&(x * unit).to_le_bytes());
+        }
+    }
+    if ours != theirs || codes != 0 {
+        return Err(format!("{what}: the answers differ from the {BESIDE}"));
+    }
+    let ours = || answered(zanikory_answer_record, &scaled);
+    let theirs = || answered(zanikory_answer_record, &old);
+    race(what, BESIDE, requests.len(), ours, theirs)
+}
+
+/// What the scaling costs: each kind that has both ways, of ordinary size and in tiny units.
+pub fn ways(tell: &mut dyn FnMut(Race)) -> Result<(), String> {
+    for (kind, of) in (1..=SCALED_KINDS).zip(&KINDS) {
+        let mut random = Random::new(u64::from(kind));
+        let requests = all_done(REQUESTS, || near_one(of_a_night(&mut random, kind)));
+        for (size, unit) in [("scaled", 1.0), ("tiny units", TINY)] {
+            let what = format!("record, {}, {size}", of.name);
+            tell(race_of_ways(&what, &requests, unit)?);
+        }
+    }
     Ok(())
 }
 

@@ -1,7 +1,7 @@
 //! The record step and the tally once more, written straight in Rust for nothing but speed: those of whoever
 //! needs no proof. The kernels are the reference's.
 
-use reference::codes::{COUNT_TOO_LARGE, INPUT_NOT_FINITE, KIND, NOT_ZERO};
+use reference::codes::{ANSWER_NOT_FINITE, COUNT_TOO_LARGE, INPUT_NOT_FINITE, KIND, NOT_ZERO};
 use reference::kinds::{refused, row_of, Answer, Kind, Worked, ROWS};
 use reference::record::{
     ANSWER_BYTES, CODE_AT, COUNT_AT, KIND_AT, NUMBERS_AT, REQUEST_BYTES, SETTLED_AT,
@@ -11,6 +11,10 @@ use std::array::from_fn;
 
 /// A number is finite where these are not all set.
 const EXPONENT: u64 = 0x7FF << 52;
+
+/// A request's way stands behind its kind. The first of the kinds have two, and are scaled in the way 0.
+const WAY_AT: usize = KIND_AT + 1;
+const SCALED_KINDS: u8 = 4;
 
 pub fn answer(request: &[u8; REQUEST_BYTES], out: &mut [u8; ANSWER_BYTES]) {
     out[..=KIND_AT].copy_from_slice(&request[..=KIND_AT]);
@@ -33,7 +37,9 @@ fn judged(request: &[u8; REQUEST_BYTES]) -> Answer {
     let words: [u64; 12] = from_fn(|i| u64::from_le_bytes(word(i)));
     let (nine, three) = words.split_at(9);
     let unused = nine[kind.nine..].iter().chain(&three[kind.three..]);
-    if head[KIND_AT + 1..] != [0; 3] || unused.fold(0, |all, word| all | word) != 0 {
+    let scales = request[KIND_AT] <= SCALED_KINDS;
+    let fits = request[WAY_AT] <= u8::from(scales) && head[WAY_AT + 1..] == [0; 2];
+    if !fits || unused.fold(0, |all, word| all | word) != 0 {
         return Err(refused(NOT_ZERO));
     }
     if words.iter().any(|word| word & EXPONENT == EXPONENT) {
@@ -41,7 +47,45 @@ fn judged(request: &[u8; REQUEST_BYTES]) -> Answer {
     }
     let nine = from_fn(|i| f64::from_bits(words[i]));
     let three = from_fn(|i| f64::from_bits(words[9 + i]));
+    if scales && request[WAY_AT] == 0 {
+        return scaled(kind, nine);
+    }
     kind.answer(&nine, &three)
+}
+
+/// The answer to the matrix divided by the power of two under its largest magnitude, with the values multiplied back.
+fn scaled(kind: &Kind, nine: [f64; 9]) -> Answer {
+    let largest = nine
+        .iter()
+        .fold(0.0, |largest: f64, x| largest.max(x.abs()));
+    let power = power_under(largest);
+    let inverse = 1.0 / power;
+    // the smallest powers have none
+    let divided = |x| {
+        if inverse.is_finite() {
+            x * inverse
+        } else {
+            x / power
+        }
+    };
+    let mut worked = kind.answer(&nine.map(divided), &[0.0; 3])?;
+    for value in &mut worked.values {
+        *value *= power;
+    }
+    if worked.values.iter().all(|value| value.is_finite()) {
+        return Ok(worked);
+    }
+    Err(refused(ANSWER_NOT_FINITE))
+}
+
+/// 1 for 0. The digits of a subnormal are its pattern.
+fn power_under(largest: f64) -> f64 {
+    let bits = largest.to_bits();
+    match bits & EXPONENT {
+        0 if bits == 0 => 1.0,
+        0 => f64::from_bits(1 << bits.ilog2()),
+        field => f64::from_bits(field),
+    }
 }
 
 fn put(worked: &Worked, out: &mut [u8; ANSWER_BYTES]) {
