@@ -54,9 +54,6 @@ power-above (fin s (suc m) e) h =
     let c : suc d ≡ size (suc m) = let p = size-pos (suc m) (zero-lt-suc m) in omega arith in
     rw (← +ℤ-sucℤ e (pos d)) (lt-ltb _ _ (power-over e (suc d) (suc m) (rw c (size-lt (suc m)))))
 
-pub power-high : (f : Format) (x : Float) → finite x ≡ true → eq x (zeroF f) ≡ false → lt (magnitudeOf x) (fin false 1 (sucℤ (powerUnder x))) ≡ true
-power-high f x h n = power-above x h
-
 -- from 1 up to 2 it is 2 ^ 0
 range-whole : (m a : ℕ) → suc m * 2 ^ a * 1 < 2 → pos a +ℤ pos (size (suc m) - 1) ≡ pos 0
 range-whole zero zero h = rw (size-exact 0 1 (lit≤ tt) (lit< tt))

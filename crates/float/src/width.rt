@@ -20,7 +20,7 @@ pub const LOWEST: Exponent = -1074;
 
 pub const BIAS: Exponent = 1075;
 
-// The exponent of the largest numbers, and the place of the leading digit in a word of one digit.
+// The exponent of the largest numbers, and the highest place of a word.
 pub const GREATEST: Exponent = 1023;
 
 pub const LAST_PLACE: Bits = 63;

@@ -1,13 +1,15 @@
--- The old way hands its numbers to the kernel as they are. Where the largest magnitude is from 1 up to 2 the power of two is 2 ^ 0, a product with it is the
--- number itself, and so both ways answer the same.
+-- The old way hands its numbers to the kernel as they are. Where the largest magnitude is from 1 up to 2, and where all numbers are zero, the power of two is
+-- 2 ^ 0, a product with it is the number itself, and so both ways answer the same.
 use Rattle.float.proofs.Words.{_≡_, refl, sym, ap, _∙_, Bool, true, false, _&&_, true≢false, List, ℕ, _+_, _-_, _≤_, arith, ℤ, pos}
 use Rattle.float.proofs.Words.{eqb, length, getD, take, drop, drop-drop, getD-take, ofBits, Float, Format, ne-eqb, eqb-true}
 use lib.Seq.{take-take}
 use Rattle.float.specs.Choice.{pick}
 use Rattle.float.specs.Sign.{allFinite}
-use Rattle.float.specs.Scaled.{timesPower}
+use Rattle.float.specs.Constants.{zeroF}
+use Rattle.float.specs.Scaled.{timesPower, powerUnder, largestMagnitude}
 use Rattle.float.proofs.Finite.{both-true}
 use Rattle.float.proofs.Scaling.{scaled-itself}
+use Rattle.float.proofs.Zeros.{zero-is}
 use Rattle.float.proofs.Power.{power-range}
 use Rattle.matrix.specs.Places.{at, Fit}
 use Rattle.matrix.proofs.Tables.{tabulate-same, tabulate-all, length-tabulate}
@@ -24,6 +26,7 @@ use Rattle.wire.specs.Bytes.{numberBytes, placeOf, wordOf, numberAt, numbersFro
 use Rattle.record.specs.Layout.{eventBytes, nineAt, threeAt}
 use Rattle.record.specs.Request.{kindOf, wayOf, askedOf, formOf, judgedOf}
 use Rattle.record.specs.Answer.{answeredOf}
+use Rattle.promises.specs.Scope.{usedNine, kindIn, numbersIn, powerIn}
 use Rattle.promises.specs.AsGiven.{FromOneToTwo, InTheOldWay}
 use Rattle.promises.proofs.Scope.{scaled-in, power-in}
 use Rattle.promises.proofs.Vouched.{plain-vouched}
@@ -73,7 +76,15 @@ module _ (f : Format) (a : Asked) (scaled : isScaled a ≡ true) (size : length 
 
 -- ---- a request
 
-module _ (f : Format) (s t : List ℕ) (o : InTheOldWay f s t) (r : FromOneToTwo f s) where
+-- where the power of two is 2 ^ 0: the largest magnitude is from 1 up to 2, or all is zero
+pub from-one-to-two : (f : Format) (s : List ℕ) → FromOneToTwo f s → powerIn f s ≡ pos 0
+from-one-to-two f s r = power-range f (largestMagnitude f (numbersIn f 8 (usedNine (kindIn s)) s)) (r .from-one) (r .to-two)
+
+pub zeros-alone : (f : Format) (s : List ℕ) → largestMagnitude f (numbersIn f 8 (usedNine (kindIn s)) s) ≡ zeroF f → powerIn f s ≡ pos 0
+unfolding powerUnder
+zeros-alone f s e = ap powerUnder (e ∙ zero-is f)
+
+module _ (f : Format) (s t : List ℕ) (o : InTheOldWay f s t) (unit : powerIn f s ≡ pos 0) where
   abbrev asked : Asked
   asked = askedOf f s
 
@@ -125,7 +136,7 @@ module _ (f : Format) (s t : List ℕ) (o : InTheOldWay f s t) (r : FromOneToTwo
 
   work-same : workOf f (askedOf f t) ≡ workOf f asked
   work-same =
-      let none : powerFor f asked ≡ pos 0 = sym (power-in f s) ∙ power-range f _ (r .from-one) (r .to-two) in
+      let none : powerFor f asked ≡ pos 0 = sym (power-in f s) ∙ unit in
       ap (workOf f) asked-other ∙ old-way f other (λ e. absurd (omega arith)) ∙ way-unseen f asked 1
       ∙ sym (unchanged f asked is-scaled (length-tabulate 9 (λ (i : ℕ). numberAt f (placeOf f nineAt i) s)) (asked-fit f s) none)
 

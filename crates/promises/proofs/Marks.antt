@@ -1,5 +1,5 @@
 -- The mark of a record with code 0 is 1 exactly if it is owed: each kernel says so of its own mark, and the byte is that mark.
-use Rattle.float.proofs.Words.{_≡_, refl, ap, Bool, true, false, false≢true, List, ℕ, _≤_, arith, eqb, Format}
+use Rattle.float.proofs.Words.{_≡_, refl, ap, _∙_, Bool, true, false, false≢true, List, ℕ, _≤_, arith, eqb, Format}
 use Rattle.float.specs.Choice.{pick}
 use Rattle.float.specs.Exactly.{Exactly}
 use Rattle.float.proofs.Choice.{chosen, by-eqb}
@@ -17,11 +17,13 @@ use Rattle.kinds.specs.Table.{kindNumbered}
 use Rattle.kinds.specs.Work.{firstOf, doneMark, refusedKind, fromFactor, usedFinite, answeredBy, plainOf}
 use Rattle.kinds.specs.Ways.{powerFor, divided, workedOn, workOf}
 use Rattle.kinds.specs.declared.table.Kind.{Kind}
+use Rattle.kinds.specs.declared.table.Kernel.{Kernel}
 use Rattle.kinds.specs.declared.work.Asked.{Asked}
 use Rattle.kinds.specs.declared.work.Worked.{Worked}
 use Rattle.kinds.proofs.Rows.{each-kind}
 use Rattle.kinds.proofs.BothWays.{by-back, by-way, work-mark}
 use Rattle.record.specs.Request.{kindOf, askedOf, formOf, judgedOf}
+use Rattle.promises.specs.Scope.{workedIn}
 use Rattle.promises.specs.Marks.{MarkOwed, MarkIn}
 use Rattle.promises.proofs.Scope.{in-table, worked-in}
 
@@ -69,7 +71,7 @@ work-owed f a =
 
 module _ (f : Format) (s : List ℕ) where
   mark-in : MarkIn f s ≡ MarkOwed f (kindNumbered (kindOf s) .kernel) (workedOn f (askedOf f s))
-  mark-in = rw (in-table (kindOf s) .2, worked-in f s)
+  mark-in = ap (λ (c : Kernel). MarkOwed f c (workedIn f s)) (in-table (kindOf s) .2) ∙ ap (MarkOwed f (kindNumbered (kindOf s) .kernel)) (worked-in f s)
 
   pub judged-mark : judgedOf f s .settled ≤ 1
   unfolding judgedOf

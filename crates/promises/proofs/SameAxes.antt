@@ -102,7 +102,8 @@ module _ (f : Format) (j : ℤ) (s t : List ℕ) (o : OtherUnits f j s t) where
         let v = at (h .work .values) i in
         let is = value-of f k (h .work) (judgedOf f s) done-s i l in
         let fine : finite (timesPower f k v) ≡ true =
-        sym (ap finite (at-tabulate 3 (λ (i : ℕ). timesPower f k (at (h .work .values) i)) i l)) ∙ at-finite (timesAll f k 3 (h .work .values)) (done-s .fine) i l in
+        sym (ap finite (at-tabulate 3 (λ (i : ℕ). timesPower f k (at (h .work .values) i)) i l))
+        ∙ at-finite (timesAll f k 3 (h .work .values)) (done-s .fine) i l in
         let exact : timesPower f k v ≡ shifted k v =
         scaled-above f k v (h .fit i l) fine (ap (λ (z : Float). lt (smallestF f) (magnitudeOf z)) (sym is) ∙ above) in
         value-of f (k +ℤ j) (h .work) (judgedOf f t) done-t i l ∙ sym (scaled-shifted f k j v) ∙ ap (timesPower f j) (sym exact ∙ sym is)
@@ -160,7 +161,8 @@ module _ (f : Format) (j : ℤ) (s t : List ℕ) (o : OtherUnits f j s t) (norma
     value-is i = ap (λ (v : List Float). at v i) (both .values c)
 
     -- multiplied back by one power or by the other, exactly
-    exact : (p : ℤ) (i : ℕ) → i < 3 → zeroOrNormal f (shifted p (valueIn f s i)) ≡ true → timesPower f p (at (answer .values) i) ≡ shifted p (at (answer .values) i)
+    exact : (p : ℤ) (i : ℕ) → i < 3 → zeroOrNormal f (shifted p (valueIn f s i)) ≡ true
+        → timesPower f p (at (answer .values) i) ≡ shifted p (at (answer .values) i)
     exact p i l z = scaled-exact f p (at (answer .values) i) (both .fit i l) (ap (λ (v : Float). zeroOrNormal f (shifted p v)) (value-is i) ∙ z)
 
     fine : (p : ℤ) → ((i : ℕ) → i < 3 → zeroOrNormal f (shifted p (valueIn f s i)) ≡ true) → multipliedBack f p answer .code ≡ 0
@@ -193,7 +195,8 @@ module _ (f : Format) (j : ℤ) (s t : List ℕ) (o : OtherUnits f j s t) (norma
         let k = powerIn f s in
         let e = kernel-done c in
         let v = at (answer .values) i in
-        value-of f (k +ℤ j) answer (judgedOf f t) (done-t f j s t o c (sym same-code ∙ c)) i l ∙ exact e (k +ℤ j) i l (normal i l .1) ∙ sym (shifted-shifted j k v)
+        value-of f (k +ℤ j) answer (judgedOf f t) (done-t f j s t o c (sym same-code ∙ c)) i l ∙ exact e (k +ℤ j) i l (normal i l .1)
+        ∙ sym (shifted-shifted j k v)
         ∙ ap (shifted j) (sym (value-of f k answer (judgedOf f s) (done-s f j s t o c (sym same-code ∙ c)) i l ∙ exact e k i l (normal i l .0))));
   }
 
@@ -214,7 +217,9 @@ module _ (κs : Lfts 2) (a b : _) (r q : ℕ) (x y : _) (p : answer-record.Post 
       let e = stands κs a b r q x y p w u v (o .size) (o .size') in
       rw (e .0, e .1) (h .head 6 (omega arith) (omega arith), h .head 7 (omega arith) (omega arith), h .vectors, h)
 
-  pub exactly-by-calls : StayNormal F j (a .0 .now) → (r ≡ q) × TimesExactly F j (a .0 .now) (b .0 .now)
+  pub exactly-by-calls : StayNormal F j (a .0 .now)
+      → (r ≡ q) × (x .1 .0 .now ≡ answeredOf F (a .0 .now)) × (y .1 .0 .now ≡ answeredOf F (b .0 .now)) × TimesExactly F j (a .0 .now) (b .0 .now)
   exactly-by-calls n =
       let h = times-exactly F j (a .0 .now) (b .0 .now) o n in
-      (code-a ∙ h .codes ∙ sym code-b, h)
+      let e = stands κs a b r q x y p w u v (o .size) (o .size') in
+      (code-a ∙ h .codes ∙ sym code-b, e .0, e .1, h)

@@ -120,11 +120,12 @@ plain-fit f a s h =
 
 -- ---- what a kind answers: b is a with other numbers
 
-record Twice (f : Format) (j k : ℤ) (v : List Float) (x y : Worked) : Type 0 where
+record Twice (f : Format) (j k : ℤ) (p : Worked) (v : List Float) (x y : Worked) : Type 0 where
   work : Worked
   this : x ≡ multipliedBack f k work
   that : y ≡ multipliedBack f (k +ℤ j) work
   clear : Clear f work
+  kernel : work .code ≡ 0 → work ≡ p
   values : work .code ≡ 0 → work .values ≡ v
   fit : Fit f 3 (work .values)
 
@@ -143,7 +144,8 @@ module _ (f : Format) (j : ℤ) (a : Asked) (y q : List Float) (scaled : isScale
   all : allFinite (firstOf n (a .nine)) ≡ true
   all = both-true (allFinite (firstOf n (a .nine))) (allFinite (firstOf (kindNumbered (a .kind) .three) (a .three))) used .0
 
-  work-same : Twice f j (powerFor f a) (valuesOf f (kindNumbered (a .kind) .kernel) (divided f (powerFor f a) a)) (workOf f a) (workOf f b)
+  work-same : let d = divided f (powerFor f a) a in
+      Twice f j (powerFor f a) (plainOf f d) (valuesOf f (kindNumbered (a .kind) .kernel) d) (workOf f a) (workOf f b)
   work-same =
       let k = powerFor f a in
       let w = plainOf f (divided f k a) in
@@ -153,6 +155,7 @@ module _ (f : Format) (j : ℤ) (a : Asked) (y q : List Float) (scaled : isScale
       record {
         work = w;
         clear = plain-clear f (divided f k a);
+        kernel = (λ _. refl);
         values = values-made f (divided f k a) scales;
         fit = plain-fit f (divided f k a) scales
             (λ i l. subst⁻¹ (λ (x : Float). T (fits f x)) (at-tabulate 9 (λ (i : ℕ). timesPower f (negℤ k) (at (a .nine) i)) i l) (scaled-fits f (negℤ k) _));
@@ -161,12 +164,14 @@ module _ (f : Format) (j : ℤ) (a : Asked) (y q : List Float) (scaled : isScale
             ∙ ap (λ (p : ℤ). multipliedBack f p (plainOf f (divided f p b))) power ∙ ap (multipliedBack f (k +ℤ j)) same;
       }
 
-refused-twice : (f : Format) (j k : ℤ) (v : List Float) (code : ℕ) → (code ≡ 0 → ⊥) → Twice f j k v (refusedKind f code 0) (refusedKind f code 0)
-refused-twice f j k v code n = record {
+refused-twice : (f : Format) (j k : ℤ) (p : Worked) (v : List Float) (code : ℕ) → (code ≡ 0 → ⊥)
+    → Twice f j k p v (refusedKind f code 0) (refusedKind f code 0)
+refused-twice f j k p v code n = record {
   work = refusedKind f code 0;
   this = sym (back-refused f k code 0);
   that = sym (back-refused f (k +ℤ j) code 0);
   clear = (λ _. refl);
+  kernel = (λ e. absurd (n e));
   values = (λ e. absurd (n e));
   fit = zeros-fit f 3;
 }
@@ -230,14 +235,18 @@ module _ (f : Format) (j : ℤ) (s t : List ℕ) (o : OtherUnits f j s t) where
       (firsts-finite f j used (asked .nine) (askedOf f t .nine) more-by)
       ∙ (rw alone)
 
-  abbrev made : List Float
-  made = valuesOf f (kindNumbered (kindOf s) .kernel) (divided f (powerFor f asked) asked)
+  -- what is worked, what the kernel answers to it, and the values of that
+  abbrev small : Asked
+  small = divided f (powerFor f asked) asked
 
-  twice : Twice f j (powerFor f asked) made (judgedOf f s) (judgedOf f t)
+  abbrev SameTwice : Worked → Worked → Type 0
+  SameTwice = Twice f j (powerFor f asked) (plainOf f small) (valuesOf f (kindNumbered (kindOf s) .kernel) small)
+
+  twice : SameTwice (judgedOf f s) (judgedOf f t)
   twice =
-      kept f s t used refl alone (nine-most (kindOf s)) size-of size-of' (o .head) same-rest (Twice f j (powerFor f asked) made)
-      (refused-twice f j (powerFor f asked) made) used-same
-      (λ u. subst⁻¹ (λ (b : Asked). Twice f j (powerFor f asked) made (workOf f asked) (workOf f b)) is-other
+      kept f s t used refl alone (nine-most (kindOf s)) size-of size-of' (o .head) same-rest SameTwice
+      (refused-twice f j (powerFor f asked) (plainOf f small) (valuesOf f (kindNumbered (kindOf s) .kernel) small)) used-same
+      (λ u. subst⁻¹ (λ (b : Asked). SameTwice (workOf f asked) (workOf f b)) is-other
       (work-same f j asked (askedOf f t .nine) (askedOf f t .three) is-scaled u more-by some-by))
 
   pub same-work : SameWork f j s (judgedOf f s) (judgedOf f t)
@@ -250,6 +259,7 @@ module _ (f : Format) (j : ℤ) (s t : List ℕ) (o : OtherUnits f j s t) where
         this = h .this ∙ ap (λ (k : ℤ). multipliedBack f k (h .work)) (sym e);
         that = h .that ∙ ap (λ (k : ℤ). multipliedBack f (k +ℤ j) (h .work)) (sym e);
         refused = (λ n. (h .this ∙ back-kept f k (h .work) (h .clear) n, h .that ∙ back-kept f (k +ℤ j) (h .work) (h .clear) n));
+        kernel = (λ c. h .kernel c ∙ ap (plainOf f) (sym (divided-in f s)));
         values = (λ c. h .values c ∙ ap (valuesOf f (kindNumbered (kindOf s) .kernel)) (sym (divided-in f s))
             ∙ ap (λ (c : Kernel). valuesOf f c (dividedIn f s)) (sym (in-table (kindOf s) .2)));
         fit = h .fit;

@@ -1,5 +1,5 @@
 -- The scope's examples P1 to P14 and its whole example, a third pivot that is NaN, and blind rotations, as rows of one table: what is asked, and all that is
--- answered, in both ways. A second table has what the two ways answer differently. Definitions only.
+-- answered, the kinds in both ways. A second table has what the two ways answer differently. Definitions only.
 -- A number is its bit pattern. Zeros that fill up the places of a record are left out at the end of a list.
 use mathlib.Core.List.{List, [], _∷_, _++_, map}
 use Prim.Native.Nat.{ℕ, _+_, _-_, _*_, _^_}

@@ -1,5 +1,6 @@
--- The scope's sizes, places and kinds as numbers written out, and what a request's bytes say by them. They stand by themselves: nothing here is taken from the
--- definitions that the step is made of, and laws tell that both say the same (proofs/Scope). Definitions only.
+-- The scope's sizes, places and kinds as numbers written out, and what a request's bytes say by them. They stand by themselves: of the
+-- definitions that the step is made of only `timesPower` and `powerOf` of `float` are taken, and laws tell that both say the same (proofs/Scope).
+-- Definitions only.
 use mathlib.Core.Bool.{Bool, _&&_}
 use mathlib.Core.List.{List, [], _∷_}
 use Prim.Native.Nat.{ℕ, _+_, _*_}

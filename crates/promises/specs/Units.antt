@@ -11,6 +11,7 @@ use Rattle.float.specs.Constants.{zeroF, smallestF}
 use Rattle.float.specs.Sign.{magnitudeOf}
 use Rattle.float.specs.Scaled.{timesPower, shifted, zeroOrNormal, largestMagnitude}
 use Rattle.matrix.specs.Places.{at, Fit}
+use Rattle.kinds.specs.Work.{plainOf}
 use Rattle.kinds.specs.Ways.{multipliedBack}
 use Rattle.kinds.specs.declared.work.Worked.{Worked}
 use Rattle.record.specs.Request.{judgedOf}
@@ -28,14 +29,15 @@ pub record OtherUnits (f : Format) (j : ℤ) (s t : List ℕ) : Type 0 where
   pub rest : drop (8 + numberLength f * usedNine (kindIn s)) t ≡ drop (8 + numberLength f * usedNine (kindIn s)) s
   pub some : eq (largestMagnitude f (numbersIn f 8 (usedNine (kindIn s)) s)) (zeroF f) ≡ false
 
--- ---- of any two such requests, with the answers x and y: both are one answer of the kernel, to the divided matrix. Its values are multiplied back by 2 ^ k
--- in x and by 2 ^ (k + j) in y; where it is refused, both are what it is
+-- ---- of any two such requests, with the answers x and y: both are one answer, whose values are multiplied back by 2 ^ k in x and by 2 ^ (k + j) in y. With
+-- code 0 it is the kernel's answer to the divided matrix; where it is refused, both are what it is
 
 pub record SameWork (f : Format) (j : ℤ) (s : List ℕ) (x y : Worked) : Type 0 where
   pub work : Worked
   pub this : x ≡ multipliedBack f (powerIn f s) work
   pub that : y ≡ multipliedBack f (powerIn f s +ℤ j) work
   pub refused : (work .code ≡ 0 → ⊥) → (x ≡ work) × (y ≡ work)
+  pub kernel : work .code ≡ 0 → work ≡ plainOf f (dividedIn f s)
   pub values : work .code ≡ 0 → work .values ≡ valuesOf f (kernelNumbered (kindIn s)) (dividedIn f s)
   pub fit : Fit f 3 (work .values)
 
