@@ -132,6 +132,21 @@ static void call(struct tried *tried, const struct request *r, size_t request_le
     turn++;
 }
 
+/* A request of the right length that is refused with the code. */
+static void call_refused(struct tried *tried, const struct request *r, uint8_t code)
+{
+    struct expected e = refused(r, code);
+    call(tried, r, ZANIKORY_REQUEST_SIZE, ZANIKORY_ANSWER_SIZE, &e);
+}
+
+/* One that is answered with 0, the same from both languages and at any address. */
+static void call_done(struct tried *tried, const struct request *r)
+{
+    struct expected e = {ZANIKORY_CODE_DONE, ZANIKORY_ANSWER_SIZE, {0}};
+    zanikory_answer_record(r->bytes, sizeof r->bytes, e.answer, sizeof e.answer);
+    call(tried, r, ZANIKORY_REQUEST_SIZE, ZANIKORY_ANSWER_SIZE, &e);
+}
+
 /* ---- the kinds of call */
 
 static int lengths(void)
@@ -186,9 +201,10 @@ static int not_finite(void)
                 struct request r = good(&kinds[k]);
                 uint64_t pattern = patterns[p];
                 memcpy(r.bytes + ZANIKORY_REQUEST_NINE_AT + place * 8, &pattern, sizeof pattern);
-                struct expected e =
-                    refused(&r, is_used ? ZANIKORY_CODE_INPUT_NOT_FINITE : ZANIKORY_CODE_RESERVED);
-                call(is_used ? &used : &unused, &r, ZANIKORY_REQUEST_SIZE, ZANIKORY_ANSWER_SIZE, &e);
+                if (is_used)
+                    call_refused(&used, &r, ZANIKORY_CODE_INPUT_NOT_FINITE);
+                else
+                    call_refused(&unused, &r, ZANIKORY_CODE_RESERVED);
             }
     return end(&used) + end(&unused);
 }
@@ -202,12 +218,10 @@ static int kind_bytes(void)
         int is_known = number >= kinds[0].number && number <= kinds[KINDS - 1].number;
         struct request r = good(&kinds[is_known ? number - kinds[0].number : 0]);
         r.bytes[ZANIKORY_REQUEST_KIND_AT] = (uint8_t)number;
-        struct expected e = refused(&r, ZANIKORY_CODE_UNKNOWN_KIND);
-        if (is_known) {
-            e.code = ZANIKORY_CODE_DONE;
-            zanikory_answer_record(r.bytes, sizeof r.bytes, e.answer, sizeof e.answer);
-        }
-        call(is_known ? &known : &unknown, &r, ZANIKORY_REQUEST_SIZE, ZANIKORY_ANSWER_SIZE, &e);
+        if (is_known)
+            call_done(&known, &r);
+        else
+            call_refused(&unknown, &r, ZANIKORY_CODE_UNKNOWN_KIND);
     }
     return end(&known) + end(&unknown);
 }
@@ -224,12 +238,10 @@ static int way_bytes(void)
                 int is_known = at == ZANIKORY_REQUEST_WAY_AT && byte <= kinds[k].last_way;
                 struct request r = good(&kinds[k]);
                 r.bytes[at] = (uint8_t)byte;
-                struct expected e = refused(&r, ZANIKORY_CODE_RESERVED);
-                if (is_known) {
-                    e.code = ZANIKORY_CODE_DONE;
-                    zanikory_answer_record(r.bytes, sizeof r.bytes, e.answer, sizeof e.answer);
-                }
-                call(is_known ? &known : &unknown, &r, ZANIKORY_REQUEST_SIZE, ZANIKORY_ANSWER_SIZE, &e);
+                if (is_known)
+                    call_done(&known, &r);
+                else
+                    call_refused(&unknown, &r, ZANIKORY_CODE_RESERVED);
             }
     return end(&known) + end(&unknown);
 }
@@ -278,8 +290,7 @@ static int overflows(void)
                 const double largest = 0x1.fffffffffffffp1023;
                 memcpy(r.bytes + ZANIKORY_REQUEST_NINE_AT + i * 8, &largest, sizeof largest);
             }
-            struct expected e = refused(&r, ZANIKORY_CODE_ANSWER_NOT_FINITE);
-            call(&tried, &r, ZANIKORY_REQUEST_SIZE, ZANIKORY_ANSWER_SIZE, &e);
+            call_refused(&tried, &r, ZANIKORY_CODE_ANSWER_NOT_FINITE);
         }
     return end(&tried);
 }

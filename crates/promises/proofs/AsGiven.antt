@@ -1,7 +1,7 @@
 -- The old way hands its numbers to the kernel as they are. Where the largest magnitude is from 1 up to 2, and where all numbers are zero, the power of two is
 -- 2 ^ 0, a product with it is the number itself, and so both ways answer the same.
-use Rattle.float.proofs.Words.{_≡_, refl, sym, ap, _∙_, Bool, true, false, _&&_, true≢false, List, ℕ, _+_, _-_, _≤_, arith, ℤ, pos}
-use Rattle.float.proofs.Words.{eqb, length, getD, take, drop, drop-drop, getD-take, ofBits, Float, Format, ne-eqb, eqb-true}
+use Rattle.float.proofs.Words.{_≡_, refl, sym, ap, _∙_, Bool, true, false, _&&_, true≢false, List, ℕ, _≤_, arith, ℤ, pos}
+use Rattle.float.proofs.Words.{eqb, length, getD, take, drop, getD-take, ofBits, Float, Format, ne-eqb, eqb-true}
 use lib.Seq.{take-take}
 use Rattle.float.specs.Choice.{pick}
 use Rattle.float.specs.Sign.{allFinite}
@@ -31,6 +31,7 @@ use Rattle.promises.specs.AsGiven.{FromOneToTwo, InTheOldWay}
 use Rattle.promises.proofs.Scope.{scaled-in, power-in}
 use Rattle.promises.proofs.Vouched.{plain-vouched}
 use Rattle.promises.proofs.NanPivots.{asked-fit}
+use Rattle.promises.proofs.Bodies.{further}
 use Rattle.promises.proofs.Units.{plain-fit}
 
 -- ---- a kind
@@ -99,10 +100,7 @@ module _ (f : Format) (s t : List ℕ) (o : InTheOldWay f s t) (unit : powerIn f
       sym (getD-take 5 t 4 0 (omega arith)) ∙ ap (λ (h : List ℕ). getD h 4 0) (o .head) ∙ getD-take 5 s 4 0 (omega arith)
 
   behind-same : (m : ℕ) → 6 ≤ m → drop m t ≡ drop m s
-  behind-same m h =
-      let q : m ≡ 6 + (m - 6) = omega arith in
-      let behind : (r : List ℕ) → drop m r ≡ drop (m - 6) (drop 6 r) = λ (r : List ℕ). ap (λ (j : ℕ). drop j r) q ∙ sym (drop-drop (m - 6) 6 r) in
-      behind t ∙ ap (drop (m - 6)) (o .rest) ∙ sym (behind s)
+  behind-same m h = further 6 m s t h (o .rest)
 
   numbers-same : (n a : ℕ) → 6 ≤ a → numbersFrom f n a t ≡ numbersFrom f n a s
   numbers-same n a h =

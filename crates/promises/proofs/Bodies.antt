@@ -12,6 +12,13 @@ use Rattle.wire.proofs.Parts.{part-within}
 use Rattle.record.specs.Layout.{reservedAt, nineAt, threeAt, requestSize}
 use Rattle.record.specs.Request.{kindOf, wayOf, askedOf, reservedZero, unusedZero, formOf, judgedOf}
 
+-- lists that are the same from k on are so from any later place on
+pub further : (k m : ℕ) (s t : List ℕ) → k ≤ m → drop k t ≡ drop k s → drop m t ≡ drop m s
+further k m s t h e =
+    let q : m ≡ k + (m - k) = omega arith in
+    let behind : (r : List ℕ) → drop m r ≡ drop (m - k) (drop k r) = λ (r : List ℕ). ap (λ (j : ℕ). drop j r) q ∙ sym (drop-drop (m - k) k r) in
+    behind t ∙ ap (drop (m - k)) e ∙ sym (behind s)
+
 -- the kind of s uses the first n of the nine numbers and none of the three, and t is s but for these
 module _ (f : Format) (s t : List ℕ) (n : ℕ) (nine : kindNumbered (kindOf s) .nine ≡ n) (three : kindNumbered (kindOf s) .three ≡ 0) (most : n ≤ 9)
     (size : length s ≡ requestSize f) (size' : length t ≡ requestSize f)
@@ -36,11 +43,7 @@ module _ (f : Format) (s t : List ℕ) (n : ℕ) (nine : kindNumbered (kindOf s)
 
   -- all that lies behind the numbers
   behind-same : (m : ℕ) → placeOf f nineAt n ≤ m → drop m t ≡ drop m s
-  behind-same m h =
-      let k = placeOf f nineAt n in
-      let q : m ≡ k + (m - k) = omega arith in
-      let behind : (r : List ℕ) → drop m r ≡ drop (m - k) (drop k r) = λ (r : List ℕ). ap (λ (j : ℕ). drop j r) q ∙ sym (drop-drop (m - k) k r) in
-      behind t ∙ ap (drop (m - k)) rest ∙ sym (behind s)
+  behind-same m h = further (placeOf f nineAt n) m s t h rest
 
   unused-same : unusedZero f (kindNumbered (kindOf s)) t ≡ unusedZero f (kindNumbered (kindOf s)) s
   unused-same =

@@ -196,10 +196,10 @@ module _ (f : Format) (j : ℤ) (s t : List ℕ) (o : OtherUnits f j s t) where
   alone : kindNumbered (kindOf s) .three ≡ 0
   alone = scales-alone (kindOf s) (both-true (kindNumbered (kindOf s) .scales) (eqb (wayOf s) 0) is-scaled .0)
 
-  size-of : length s ≡ requestSize f
+  pub size-of : length s ≡ requestSize f
   size-of = o .size ∙ request-length f
 
-  size-of' : length t ≡ requestSize f
+  pub size-of' : length t ≡ requestSize f
   size-of' = o .size' ∙ request-length f
 
   same-rest : drop (placeOf f nineAt used) t ≡ drop (placeOf f nineAt used) s

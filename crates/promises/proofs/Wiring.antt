@@ -1,6 +1,6 @@
 -- Reversed wiring at the record: of the kernel's answers the theorems `reversed` and `reversed2` tell, and the flipped request is answered by them.
 use Rattle.float.proofs.Words.{_≡_, refl, sym, ap, _∙_, subst, subst₂, Bool, true, false, _&&_, true≢false, List, map, inl, inr, ℕ, _+_, _≤_, _<_, arith, ℤ}
-use Rattle.float.proofs.Words.{negℤ, length, getD, take, length-take-le, Float, Format}
+use Rattle.float.proofs.Words.{negℤ, length, getD, take, Float, Format}
 use contract.Lifetimes.{Lfts}
 use Rattle.float.specs.Width.{F}
 use Rattle.float.specs.Sign.{finite, allFinite}
@@ -35,7 +35,7 @@ use Rattle.wire.specs.Bytes.{part}
 use Rattle.record.specs.Layout.{eventBytes, requestSize, codeAt, answerSize}
 use Rattle.record.specs.Request.{kindOf, judgedOf}
 use Rattle.record.specs.Answer.{answeredOf, Step}
-use Rattle.record.proofs.Answers.{with-room, head-byte, code-in-place}
+use Rattle.record.proofs.Answers.{event-length, with-room, head-byte, code-in-place}
 use Rattle.record.proofs.Streams.{stepped}
 use Rattle.record.proofs.answer.zanikory_answer_record.Reads as answer-record
 use Rattle.promises.specs.Wiring.{flipped, Bytes, SameByte, ReversedRecords, PairFlipped, ReversedMarks}
@@ -47,17 +47,14 @@ use Rattle.promises.proofs.Flipped.{flipped-size, flipped-kept}
 -- ---- the head of an answer, byte by byte
 
 module _ (f : Format) (s : List ℕ) (size : length s ≡ requestSize f) where
-  event-size : length (take eventBytes s) ≡ eventBytes
-  event-size = length-take-le eventBytes s (omega arith)
-
   code-of : getD (answeredOf f s) (eventBytes + 1) 0 ≡ judgedOf f s .code
-  code-of = head-byte f (take eventBytes s) (kindOf s) (judgedOf f s) 1 event-size
+  code-of = head-byte f (take eventBytes s) (kindOf s) (judgedOf f s) 1 (event-length f s size)
 
-  count-of : getD (answeredOf f s) (eventBytes + 2) 0 ≡ judgedOf f s .count
-  count-of = head-byte f (take eventBytes s) (kindOf s) (judgedOf f s) 2 event-size
+  pub count-of : getD (answeredOf f s) (eventBytes + 2) 0 ≡ judgedOf f s .count
+  count-of = head-byte f (take eventBytes s) (kindOf s) (judgedOf f s) 2 (event-length f s size)
 
-  mark-of : getD (answeredOf f s) (eventBytes + 3) 0 ≡ judgedOf f s .settled
-  mark-of = head-byte f (take eventBytes s) (kindOf s) (judgedOf f s) 3 event-size
+  pub mark-of : getD (answeredOf f s) (eventBytes + 3) 0 ≡ judgedOf f s .settled
+  mark-of = head-byte f (take eventBytes s) (kindOf s) (judgedOf f s) 3 (event-length f s size)
 
 -- ---- the answers of the kernel
 

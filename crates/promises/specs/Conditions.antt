@@ -99,8 +99,11 @@ valuesOf f Solve2x2 a = []
 valuesOf f Solve3x3 a = []
 valuesOf f Unknown a = []
 
+abbrev pub valueIn : Format → List ℕ → ℕ → Float
+valueIn f s i = at (valuesOf f (kernelNumbered (kindIn s)) (dividedIn f s)) i
+
 abbrev pub backIn : Format → List ℕ → List Float
-backIn f s = tabulate 3 (λ (i : ℕ). timesPower f (powerIn f s) (at (valuesOf f (kernelNumbered (kindIn s)) (dividedIn f s)) i))
+backIn f s = tabulate 3 (λ (i : ℕ). timesPower f (powerIn f s) (valueIn f s i))
 
 -- ---- the rows
 

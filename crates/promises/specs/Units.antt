@@ -6,7 +6,7 @@ use mathlib.Core.List.{List}
 use Prim.Native.Nat.{ℕ, _+_, _*_, _<_}
 use lib.IntN.{ℤ, _+ℤ_}
 use lib.ListN.{length, getD, take, drop}
-use lib.Ieee.{Float, Format, eq, lt}
+use lib.Ieee.{Format, eq, lt}
 use Rattle.float.specs.Constants.{zeroF, smallestF}
 use Rattle.float.specs.Sign.{magnitudeOf}
 use Rattle.float.specs.Scaled.{timesPower, shifted, zeroOrNormal, largestMagnitude}
@@ -17,7 +17,7 @@ use Rattle.kinds.specs.declared.work.Worked.{Worked}
 use Rattle.record.specs.Request.{judgedOf}
 use Rattle.record.specs.Answer.{answeredOf}
 use Rattle.promises.specs.Scope.{numberLength, requestLength, usedNine, kernelNumbered, kindIn, numbersIn, scaledIn, powerIn, dividedIn}
-use Rattle.promises.specs.Conditions.{valuesOf}
+use Rattle.promises.specs.Conditions.{valuesOf, valueIn}
 
 -- t asks in the scaled way what s asks, of numbers that are 2 ^ j times as large, exactly. A zero matrix, which is the same in all units, is left out.
 pub record OtherUnits (f : Format) (j : ℤ) (s t : List ℕ) : Type 0 where
@@ -55,9 +55,6 @@ pub record SameAxes (f : Format) (j : ℤ) (s t : List ℕ) : Type 0 where
   pub vectors : drop (8 + numberLength f * 3) (answeredOf f s) ≡ drop (8 + numberLength f * 3) (answeredOf f t)
 
 -- ---- where the values of both stay zero or normal numbers: the code is the same too, and the values are 2 ^ j times as large, exactly
-
-abbrev pub valueIn : Format → List ℕ → ℕ → Float
-valueIn f s i = at (valuesOf f (kernelNumbered (kindIn s)) (dividedIn f s)) i
 
 abbrev pub StayNormal : Format → ℤ → List ℕ → Type 0
 StayNormal f j s =

@@ -47,7 +47,7 @@ judged-clear f s =
     (chosen (Clear f) (usedFinite (askedOf f s)) _ _ (work-clear f (askedOf f s)) (λ _. refl))
     (λ _. refl)
 
-event-length : (f : Format) (s : List ℕ) → length s ≡ requestSize f → length (take eventBytes s) ≡ eventBytes
+pub event-length : (f : Format) (s : List ℕ) → length s ≡ requestSize f → length (take eventBytes s) ≡ eventBytes
 event-length f s h = length-take-le eventBytes s (omega arith)
 
 -- every answer is a record over one event's bytes
