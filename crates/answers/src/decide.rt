@@ -8,7 +8,7 @@ use record::layout::ANSWER_SIZE;
 use stdio::MOST_CALLS;
 
 // How the program ends.
-#[derive(Drop)]
+#[derive(Clone, Copy)]
 pub enum End {
     Well,
     CannotRead,
@@ -18,7 +18,7 @@ pub enum End {
 
 // Where the program stands between two rounds: so many rounds may follow, which is none once it has ended; so many bytes of a request
 // are kept for the next; so many answers are written; and this is how it ends if no round follows.
-#[derive(Drop)]
+#[derive(Clone, Copy)]
 pub struct State {
     pub rounds: u64,
     pub kept: usize,

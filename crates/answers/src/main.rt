@@ -3,6 +3,8 @@
 //
 // It answers after each read, so that a slow pipe is served; what a read leaves of a request waits for the next one. A read or a
 // write that fails is one line on standard error, and the end; one that a signal broke off is made again.
+#![tactic(auto)]
+
 mod calls;
 mod decide;
 

@@ -14,7 +14,7 @@ use matrix::codes::{ANSWER_NOT_FINITE, DONE, INPUT_LENGTH, INPUT_NOT_FINITE, OUT
 use matrix::symmetric::Sym2;
 
 // A factor, whole with code 0. With code 6 the pivot is the number of the refused one, and the writes before it stand.
-#[derive(Drop)]
+#[derive(Clone, Copy)]
 pub struct Factor2 {
     pub code: u8,
     pub pivot: u8,
@@ -22,7 +22,7 @@ pub struct Factor2 {
 }
 
 // A factor and a solution, with code 0.
-#[derive(Drop)]
+#[derive(Clone, Copy)]
 pub struct Solved2 {
     pub code: u8,
     pub pivot: u8,

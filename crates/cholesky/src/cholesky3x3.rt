@@ -15,7 +15,7 @@ use matrix::codes::{ANSWER_NOT_FINITE, DONE, INPUT_LENGTH, INPUT_NOT_FINITE, OUT
 use matrix::symmetric::Sym3;
 
 // A factor, whole with code 0. With codes 6 and 9 the pivot is the number of the refused one, and the writes before it stand.
-#[derive(Drop)]
+#[derive(Clone, Copy)]
 pub struct Factor3 {
     pub code: u8,
     pub pivot: u8,
@@ -23,7 +23,7 @@ pub struct Factor3 {
 }
 
 // A factor and a solution, with code 0.
-#[derive(Drop)]
+#[derive(Clone, Copy)]
 pub struct Solved3 {
     pub code: u8,
     pub pivot: u8,

@@ -9,7 +9,7 @@ use float::width::Real;
 use matrix::codes::{DONE, NAN_PIVOT, PIVOT};
 
 // A pivot's root, or the number of a pivot that has none: it is at most zero, or NaN.
-#[derive(Drop)]
+#[derive(Clone, Copy)]
 pub enum Pivot {
     Root(Real),
     AtMostZero(u8),
@@ -17,7 +17,7 @@ pub enum Pivot {
 }
 
 // The code of a pivot step and the number of a refused pivot.
-#[derive(Drop)]
+#[derive(Clone, Copy)]
 pub struct Refusal {
     pub code: u8,
     pub pivot: u8,

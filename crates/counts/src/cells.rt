@@ -26,7 +26,7 @@ pub const LEFT_AT: usize = FOREIGN_AT + 1;
 pub const TALLY_SIZE: usize = LEFT_AT + 1;
 
 // The row of a kind, and whether it counts rotations.
-#[derive(Drop)]
+#[derive(Clone, Copy)]
 pub struct Row {
     pub number: u8,
     pub counts: bool,

@@ -11,7 +11,7 @@ use matrix::codes::DONE;
 use record::layout::{CODE_AT, COUNT_AT, KIND_AT, MARK_AT};
 
 // The bytes of an answer's head that are counted. `turns` are the rotations, where the code is 0.
-#[derive(Drop)]
+#[derive(Clone, Copy)]
 pub struct Head {
     pub kind: u8,
     pub code: u8,

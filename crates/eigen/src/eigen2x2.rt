@@ -14,13 +14,13 @@ use matrix::square::Mat2;
 use matrix::symmetric::Sym2;
 
 // Two values and their vectors.
-#[derive(Drop)]
+#[derive(Clone, Copy)]
 pub struct Axes2 {
     pub values: [Real; 2],
     pub vectors: Mat2,
 }
 
-#[derive(Drop)]
+#[derive(Clone, Copy)]
 pub struct Eigen2 {
     pub code: u8,
     pub settled: bool,
@@ -28,7 +28,7 @@ pub struct Eigen2 {
     pub vectors: Mat2,
 }
 
-#[derive(Drop)]
+#[derive(Clone, Copy)]
 pub struct EigVals2 {
     pub code: u8,
     pub settled: bool,

@@ -19,7 +19,7 @@ use matrix::square::Mat3;
 use matrix::symmetric::Sym3;
 
 // A working state, and whether a rotation made so far was blind.
-#[derive(Drop)]
+#[derive(Clone, Copy)]
 pub struct Working {
     pub a: Sym3,
     pub v: Mat3,
@@ -28,14 +28,14 @@ pub struct Working {
 }
 
 // The same without vectors.
-#[derive(Drop)]
+#[derive(Clone, Copy)]
 pub struct Bare {
     pub a: Sym3,
     pub made: Made,
     pub blind: bool,
 }
 
-#[derive(Drop)]
+#[derive(Clone, Copy)]
 pub struct Eigen3 {
     pub code: u8,
     pub made: Made,
@@ -45,7 +45,7 @@ pub struct Eigen3 {
     pub worked: Sym3,
 }
 
-#[derive(Drop)]
+#[derive(Clone, Copy)]
 pub struct EigVals3 {
     pub code: u8,
     pub made: Made,

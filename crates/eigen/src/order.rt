@@ -9,7 +9,7 @@ use float::width::Real;
 use matrix::square::Mat3;
 
 // Values, and the columns that belong to them.
-#[derive(Drop)]
+#[derive(Clone, Copy)]
 pub struct Sorted {
     pub values: [Real; 3],
     pub columns: Mat3,

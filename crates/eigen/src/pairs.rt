@@ -27,7 +27,7 @@ pub fn find_largest_off_diag(a: Sym3) -> OffDiag
 }
 
 // Of a pair: the number beside the diagonal, and the two on it.
-#[derive(Drop)]
+#[derive(Clone, Copy)]
 struct Elements {
     apq: Real,
     app: Real,
@@ -151,7 +151,7 @@ pub fn apply_rotation(a: Sym3, p: Pair, r: Rotation) -> Sym3
 }
 
 // The matrix after a rotation, the rotation, and whether it was blind.
-#[derive(Drop)]
+#[derive(Clone, Copy)]
 pub struct Turned {
     pub a: Sym3,
     pub r: Rotation,

@@ -224,6 +224,10 @@ smallest_unit binary32 = refl
 smallest_unit binary64 = refl
 
 pub root_positive : (f : Format) (x : Float) → T (fits f x) → T (positive x) → T (positive (root_of f x))
+root_positive f nan t p = elim p [ ]
+root_positive f (inf _) t p = elim p [ ]
+root_positive f (fin false zero e) t p = elim p [ ]
+root_positive f (fin true _ e) t p = elim p [ ]
 root_positive f (fin false (suc m) e) t p = go (root_of f (fin false (suc m) e)) (correct f (fin false (suc m) e) t)
   where
     units_pos : 0 < in_units f (suc m) e * 2 ^ low f
@@ -231,6 +235,9 @@ root_positive f (fin false (suc m) e) t p = go (root_of f (fin false (suc m) e))
 
     go : (r : Float) → IsRoot f (fin false (suc m) e) r → T (positive r)
     go (fin false (suc n) d) h = lt→ltb 0 (suc n) (zero-lt-suc n)
+    go nan h = elim h [ ]
+    go (inf _) h = elim h [ ]
+    go (fin true _ d) h = elim h [ ]
     go (fin false zero d) h =
         let none : in_units f 0 d ≡ 0 = rw (zero-mul (up d), zero-mul (2 ^ low f)) (zero-div (down d)) in
         let one = smallest_unit f in
@@ -243,6 +250,14 @@ unfolding div is_nan
 quotient_nan f nan y p = refl
 quotient_nan f (inf s) (fin false (suc n) d) p = refl
 quotient_nan f (fin s m e) (fin false (suc n) d) p = rw (eqb·suc-zero n) (round_no_nan f _ _ _)
+quotient_nan f (inf s) nan p = elim p [ ]
+quotient_nan f (inf s) (inf _) p = elim p [ ]
+quotient_nan f (inf s) (fin false zero d) p = elim p [ ]
+quotient_nan f (inf s) (fin true _ d) p = elim p [ ]
+quotient_nan f (fin s m e) nan p = elim p [ ]
+quotient_nan f (fin s m e) (inf _) p = elim p [ ]
+quotient_nan f (fin s m e) (fin false zero d) p = elim p [ ]
+quotient_nan f (fin s m e) (fin true _ d) p = elim p [ ]
 
 pub difference_nan : (f : Format) (x y : Float) → finite x ≡ true → is_nan (sub f x y) ≡ is_nan y
 unfolding sub add neg finite is_nan

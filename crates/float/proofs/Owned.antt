@@ -7,7 +7,7 @@ use denote.Floats.{FloatOf, passes}
 use denote.Laws.{Is}
 use denote.Shadow.{shadow}
 
-each_fits : (f : Format) (xs : List Float) (vs : List Val) → shadow (each Float (FloatOf f).own xs vs) → (i : ℕ) → T (fits f (get_or xs i nan))
+each_fits : (f : Format) (xs : List Float) (vs : List Val) → shadow (each Float (FloatOf f).own_val xs vs) → (i : ℕ) → T (fits f (get_or xs i nan))
 each_fits f [] vs h i = nan-fits f
 each_fits f (x ∷ xs) [] h i = absurd h
 each_fits f (x ∷ xs) (v ∷ vs) h zero = passes _ h.0.1

@@ -3,7 +3,7 @@
 
 // The root is about r0 + r1 * d - r2 * d^2 + r3 * d^3, in units of 2^-63, and its inverse about w0 - w1 * d + w2 * d^2 - w3 * d^3, in units of 2^-64.
 // Here d is how far a number is into its interval: it and its powers are in units of 2^-32.
-#[derive(Drop)]
+#[derive(Clone, Copy)]
 pub(crate) struct Curves {
     pub r0: u64,
     pub r1: u32,

@@ -4,7 +4,7 @@ use crate::curves53::curves_in;
 use crate::width::Bits;
 
 // In units of 2^-63 and 2^-64, for a number that is scaled by fours to be from 1 up to 4.
-#[derive(Drop)]
+#[derive(Clone, Copy)]
 pub(crate) struct Guess {
     pub root: Bits,
     pub inverse: Bits,

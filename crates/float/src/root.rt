@@ -22,7 +22,7 @@ use crate::width::{
 };
 
 // A whole root and what is left beyond its square.
-#[derive(Drop)]
+#[derive(Clone, Copy)]
 pub struct Whole {
     pub q: Bits,
     pub left: Bits,
@@ -53,7 +53,7 @@ fn whole_root(m: Bits) -> Whole
 }
 
 // m * 4^j, with j such that it has PRECISION digits or one more.
-#[derive(Drop)]
+#[derive(Clone, Copy)]
 pub struct Scaled {
     pub m: Bits,
     pub j: Bits,
@@ -94,7 +94,7 @@ fn root_pattern(b: Bits) -> Bits
 }
 
 // A pattern, and whether it is the root's.
-#[derive(Drop)]
+#[derive(Clone, Copy)]
 struct Quick {
     sure: bool,
     bits: Bits,

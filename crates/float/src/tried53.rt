@@ -19,7 +19,7 @@ const SMALL: Bits = 0x4_0000_0000;
 
 // The digits in two parts, since the exponent can be put to the upper one while the lower one is still worked out; and whether their sum is the
 // nearest to the root.
-#[derive(Drop)]
+#[derive(Clone, Copy)]
 pub(crate) struct Tried {
     pub sure: bool,
     pub upper: Bits,

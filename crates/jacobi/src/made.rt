@@ -1,5 +1,5 @@
 // What a run of rotations made, in the states and answers of both 3x3 kernels.
-#[derive(Drop)]
+#[derive(Clone, Copy)]
 pub struct Made {
     pub count: u8,
 }

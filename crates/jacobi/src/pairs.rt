@@ -9,7 +9,7 @@ use float::width::Real;
 use matrix::square::Mat3;
 
 // The rows and columns p < q that a rotation mixes.
-#[derive(Drop)]
+#[derive(Clone, Copy)]
 pub enum Pair {
     P12,
     P13,
@@ -17,7 +17,7 @@ pub enum Pair {
 }
 
 // A pair and the size of what lies beside the diagonal there.
-#[derive(Drop)]
+#[derive(Clone, Copy)]
 pub struct OffDiag {
     pub pair: Pair,
     pub size: Real,

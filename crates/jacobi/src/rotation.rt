@@ -8,7 +8,7 @@ use float::sign::{is_finite, magnitude, signum};
 use float::width::{EPSILON, HALF_ROOT, Real};
 
 // Cosine, sine and tangent.
-#[derive(Drop)]
+#[derive(Clone, Copy)]
 pub struct Rotation {
     pub c: Real,
     pub s: Real,

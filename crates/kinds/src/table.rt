@@ -3,7 +3,7 @@ ghost use Rattle.std.specs.Prelude.{◌≡◌};
 ghost use Rattle.kinds.specs.Table.{row, kind_numbered, known_kind, known_way};
 
 // What answers a kind: eigenvalues, singular values, a Cholesky factor, and a factor with a solution, of size 2 or 3.
-#[derive(Drop)]
+#[derive(Clone, Copy)]
 pub enum Kernel {
     Eigen2x2,
     Eigen3x3,
@@ -18,7 +18,7 @@ pub enum Kernel {
 
 // The number in a request, how many numbers the kind uses of the nine and of the three, whether its answer counts rotations,
 // whether its matrix is scaled unless the request's way says no, and its kernel.
-#[derive(Drop)]
+#[derive(Clone, Copy)]
 pub struct Kind {
     pub number: u8,
     pub nine: usize,

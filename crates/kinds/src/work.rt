@@ -22,7 +22,7 @@ use svd::svd2x2::Svd2;
 use svd::svd3x3::Svd3;
 
 // What a request asks: its kind, its way, and its numbers.
-#[derive(Drop)]
+#[derive(Clone, Copy)]
 pub struct Asked {
     pub kind: u8,
     pub way: u8,
@@ -31,7 +31,7 @@ pub struct Asked {
 }
 
 // Three values, nine numbers left and nine right, with code, count and mark.
-#[derive(Drop)]
+#[derive(Clone, Copy)]
 pub struct Worked {
     pub code: u8,
     pub count: u8,

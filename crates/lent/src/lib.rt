@@ -1,4 +1,6 @@
 // A rotation of a matrix where it stands, as the crate's `apply_rotation`: whoever holds the matrix lends it, and it is left as it was on refusal.
+#![tactic(auto)]
+
 ghost use Rattle.std.specs.Prelude.{◌≡◌};
 ghost use Rattle.float.specs.Width.{F};
 ghost use Rattle.matrix.specs.Indexed.{sym3_answer};

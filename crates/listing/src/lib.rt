@@ -1,4 +1,6 @@
 // The listing of a tally, as text.
+#![tactic(auto)]
+
 pub mod page;
 mod sums;
 mod text;

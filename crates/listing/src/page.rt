@@ -12,7 +12,7 @@ use counts::known::MOST_TURNS;
 use matrix::codes::{COUNT_TOO_LARGE, DONE, INPUT_LENGTH, OUTPUT_LENGTH};
 
 // The code of a call, and how many bytes it wrote.
-#[derive(Drop)]
+#[derive(Clone, Copy)]
 pub struct Listed {
     pub code: u8,
     pub size: usize,

@@ -10,7 +10,7 @@ use counts::cells::{COLUMNS, ROWS};
 use counts::known::CODES;
 
 // A sum; 0 where it does not fit.
-#[derive(Drop)]
+#[derive(Clone, Copy)]
 pub struct Sum {
     pub fits: bool,
     pub n: u64,

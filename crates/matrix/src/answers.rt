@@ -8,21 +8,21 @@ use float::sign::all_finite;
 use float::width::Real;
 
 // A place among the numbers of a matrix.
-#[derive(Drop)]
+#[derive(Clone, Copy)]
 pub enum Place {
     At(usize),
     Outside,
 }
 
 // The number at a place.
-#[derive(Drop)]
+#[derive(Clone, Copy)]
 pub enum Entry {
     Number(Real),
     Outside,
 }
 
 // A number that was worked out, or why there is none.
-#[derive(Drop)]
+#[derive(Clone, Copy)]
 pub enum Scalar {
     Number(Real),
     InputLength,
@@ -30,13 +30,13 @@ pub enum Scalar {
     AnswerNotFinite,
 }
 
-#[derive(Drop)]
+#[derive(Clone, Copy)]
 pub struct Numbers2 {
     pub code: u8,
     pub values: [Real; 2],
 }
 
-#[derive(Drop)]
+#[derive(Clone, Copy)]
 pub struct Numbers3 {
     pub code: u8,
     pub values: [Real; 3],

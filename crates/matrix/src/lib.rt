@@ -1,4 +1,6 @@
 // Square and symmetric matrices of sizes 2 and 3, and what is computed with them alone.
+#![tactic(auto)]
+
 pub mod answers;
 pub mod codes;
 pub mod core;

@@ -14,29 +14,29 @@ use crate::codes::{DONE, INPUT_LENGTH, INPUT_NOT_FINITE, OUTPUT_LENGTH, OUTSIDE}
 use float::sign::both_finite;
 use float::width::Real;
 
-#[derive(Drop)]
+#[derive(Clone, Copy)]
 pub struct Mat2 {
     pub data: [Real; 4],
 }
 
-#[derive(Drop)]
+#[derive(Clone, Copy)]
 pub struct Mat3 {
     pub data: [Real; 9],
 }
 
-#[derive(Drop)]
+#[derive(Clone, Copy)]
 pub struct Mat2Answer {
     pub code: u8,
     pub matrix: Mat2,
 }
 
-#[derive(Drop)]
+#[derive(Clone, Copy)]
 pub struct Mat3Answer {
     pub code: u8,
     pub matrix: Mat3,
 }
 
-#[derive(Drop)]
+#[derive(Clone, Copy)]
 pub struct Size {
     pub rows: usize,
     pub cols: usize,

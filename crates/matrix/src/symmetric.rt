@@ -13,23 +13,23 @@ use crate::square::Size;
 use float::sign::{all_finite, both_finite};
 use float::width::Real;
 
-#[derive(Drop)]
+#[derive(Clone, Copy)]
 pub struct Sym2 {
     pub data: [Real; 3],
 }
 
-#[derive(Drop)]
+#[derive(Clone, Copy)]
 pub struct Sym3 {
     pub data: [Real; 6],
 }
 
-#[derive(Drop)]
+#[derive(Clone, Copy)]
 pub struct Sym2Answer {
     pub code: u8,
     pub matrix: Sym2,
 }
 
-#[derive(Drop)]
+#[derive(Clone, Copy)]
 pub struct Sym3Answer {
     pub code: u8,
     pub matrix: Sym3,

@@ -6,7 +6,7 @@ use crate::operations::answer;
 use crate::words::wide;
 
 // What the header asks for: the operation, and the words of an item and of its answer.
-#[derive(Drop)]
+#[derive(Clone, Copy)]
 pub(crate) struct Job {
     pub(crate) op: u64,
     pub(crate) n: usize,

@@ -3,6 +3,8 @@
 // Standard input has jobs, one after the other. A job is a header of 8 bytes and its items. The header: the operation, the words
 // of an item (1 to 40), the words of an answer (1 to 64), a zero, and the number of items in four bytes; 0 stands for all to the
 // input's end. Each whole item is answered; a part of one at the end is dropped.
+#![tactic(auto)]
+
 mod items;
 mod numbers;
 mod of_cholesky;

@@ -12,7 +12,7 @@ use svd::svd3x3::{Svd3, svd};
 const MOST: usize = 64;
 
 // The code, and how many places are filled.
-#[derive(Drop)]
+#[derive(Clone, Copy)]
 pub(crate) struct Gate {
     pub code: u8,
     pub stop: usize,
@@ -59,7 +59,7 @@ pub fn svd_row(mats: &[Mat3], answers: &mut [Svd3]) -> u8
 // One place more than a row may have, so that every refusal can be seen.
 pub const ROOM: usize = MOST + 1;
 
-#[derive(Drop)]
+#[derive(Clone, Copy)]
 pub struct Filled {
     pub code: u8,
     pub answers: [Svd3; ROOM],

@@ -3,6 +3,8 @@
 // Standard input has jobs, one after the other. A job is a header of 2 bytes, how many matrices and how many answers are lent (0 to 65
 // each), and the matrices. Before the call each of the 65 answers is what `found` makes it. A job is answered by the code and all 65
 // answers as the call leaves them; a part of a job at the end is dropped.
+#![tactic(auto)]
+
 mod found;
 mod job;
 

@@ -1,4 +1,6 @@
 // Functions whose NaNs no contract can tell apart, as C functions for a host that looks at the bits. Real is f64 (float::width).
+#![tactic(auto)]
+
 use float::width::{Bits, Real};
 
 pub mod moves;

@@ -1,5 +1,7 @@
 // What a program makes of what its reads and writes answer: how a call ended, how far a writing has come, which bytes are kept for the
 // next read. The calls themselves stand in the programs, since what they move no contract can say; what follows from it is said here.
+#![tactic(auto)]
+
 ghost use Rattle.std.specs.Prelude.{◌≡◌, ◌++◌, ◌+◌, ◌-◌, ◌≤◌, min, length, take, drop};
 ghost use Rattle.stdio.specs.Calls.{outcome_of, to_write_of, up_to, wrote_of};
 ghost use Rattle.stdio.specs.Kept.{kept_of};
@@ -9,7 +11,7 @@ ghost use Rattle.stdio.specs.Kept.{kept_of};
 pub const MOST_CALLS: u64 = 9007199254740992;
 
 // How a read or a write ended.
-#[derive(Drop)]
+#[derive(Clone, Copy)]
 pub enum Outcome {
     // So many bytes are read or written.
     Bytes(usize),
@@ -41,7 +43,7 @@ pub fn outcome_of(got: isize, most: usize, interrupted: bool) -> Outcome
 }
 
 // Bytes on their way out: so many are written, and so many calls may follow, which is none once the writing has ended.
-#[derive(Drop)]
+#[derive(Clone, Copy)]
 pub struct Writing {
     pub written: usize,
     pub calls: u64,

@@ -9,14 +9,14 @@ use float::width::Real;
 use matrix::square::{Mat2, Mat3};
 
 // Values, and the columns of U and V that belong to them.
-#[derive(Drop)]
+#[derive(Clone, Copy)]
 pub struct Factors3 {
     pub values: [Real; 3],
     pub u: Mat3,
     pub v: Mat3,
 }
 
-#[derive(Drop)]
+#[derive(Clone, Copy)]
 pub struct Factors2 {
     pub values: [Real; 2],
     pub u: Mat2,

@@ -39,7 +39,7 @@ pub fn find_largest_off_diag_nonsym(a: Mat3) -> OffDiag
 }
 
 // Of a pair: the two numbers on the diagonal, and the two beside it.
-#[derive(Drop)]
+#[derive(Clone, Copy)]
 struct Elements {
     app: Real,
     aqp: Real,

@@ -9,7 +9,7 @@ use float::width::Real;
 use jacobi::rotation::{Rotation, compute_jacobi_rotation};
 
 // Cosine and sine of the polar rotation, and the symmetrised pair.
-#[derive(Drop)]
+#[derive(Clone, Copy)]
 pub struct Polar {
     pub c: Real,
     pub s: Real,
@@ -19,7 +19,7 @@ pub struct Polar {
 }
 
 // The left and the right turn, the two diagonal numbers, and the symmetrised pair that they came from.
-#[derive(Drop)]
+#[derive(Clone, Copy)]
 pub struct TwoSided {
     pub cl: Real,
     pub sl: Real,

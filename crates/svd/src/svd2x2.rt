@@ -13,7 +13,7 @@ use jacobi::blind::is_blind;
 use matrix::codes::{ANSWER_NOT_FINITE, DONE, INPUT_NOT_FINITE};
 use matrix::square::Mat2;
 
-#[derive(Drop)]
+#[derive(Clone, Copy)]
 pub struct Svd2 {
     pub code: u8,
     pub settled: bool,

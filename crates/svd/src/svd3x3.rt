@@ -20,7 +20,7 @@ use matrix::codes::{ANSWER_NOT_FINITE, DONE, INPUT_NOT_FINITE};
 use matrix::square::Mat3;
 
 // A working state, and whether a rotation made so far was blind.
-#[derive(Drop)]
+#[derive(Clone, Copy)]
 pub struct Working {
     pub a: Mat3,
     pub u: Mat3,
@@ -29,7 +29,7 @@ pub struct Working {
     pub blind: bool,
 }
 
-#[derive(Drop)]
+#[derive(Clone, Copy)]
 pub struct Svd3 {
     pub code: u8,
     pub made: Made,

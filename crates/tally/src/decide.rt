@@ -7,7 +7,7 @@ use matrix::codes::DONE;
 use stdio::MOST_CALLS;
 
 // How the program ends.
-#[derive(Drop)]
+#[derive(Clone, Copy)]
 pub enum End {
     Well,
     CannotRead,
@@ -18,7 +18,7 @@ pub enum End {
 
 // Where the program stands between two rounds: so many rounds may follow, which is none once the reading has ended; so many bytes of a
 // record are kept for the next; and this is how the reading ends if no round follows.
-#[derive(Drop)]
+#[derive(Clone, Copy)]
 pub struct State {
     pub rounds: u64,
     pub kept: usize,

@@ -3,6 +3,8 @@
 // It counts after each read, in fixed memory; what a read leaves of a record waits for the next one, and what is left at the end are bytes
 // left over. A read that fails, or a count that passes 64 bits, is one line on standard error and no listing; a read or a write that a
 // signal broke off is made again.
+#![tactic(auto)]
+
 mod calls;
 mod decide;
 

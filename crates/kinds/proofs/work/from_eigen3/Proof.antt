@@ -1,9 +1,0 @@
--- Each number goes to its place.
-use Rattle.float.proofs.Words.{needs}
-use Rattle.kinds.proofs.work.from_eigen3.Statement.{statement}
-use Rattle.kinds.proofs.work.from_eigen3.Tie as tie
-
-pub from-eigen3-spec : {M : Type 1} → statement M
-from-eigen3-spec = tie.close (tie.spec
-    (λ c κs. search needs) (λ c κs. search needs) (λ c. search needs) (λ c. search needs) (λ c. search needs)
-    (λ c. rw (c.mark-byte.ensures, c.before.all9.ensures)))
