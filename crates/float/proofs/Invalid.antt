@@ -6,7 +6,7 @@ use Rattle.float.proofs.Words.{ltb, eqb, lt→ltb, eqb·suc-zero, ℤ, pos, pow_
 use Rattle.float.proofs.Words.{round, sum, add, sub, minus, mul, div, neg, lt, eq, le, is_nan, fits, ne_eqb, lt-ltb, le-ltb}
 use mathlib.Core.Bool.{and-false}
 use lib.Ieee.Exact.{HasValue}
-use lib.Ieee.Fits.{two, down_pos}
+use lib.Ieee.Fits.{down_pos}
 use lib.Ieee.Order.{round_mono}
 use lib.Ieee.Positive.{positive}
 use Rattle.float.specs.Constants.{zero_f}
