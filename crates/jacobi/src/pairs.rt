@@ -31,6 +31,7 @@ fn larger(best: OffDiag, next: OffDiag) -> OffDiag
 }
 
 // The running maximum over the three pairs, in their order (dense3x3/eigen.rs, lines 258 to 272; svd.rs does the same).
+#[tactic(auto, unfolding(crate::specs::Pairs::largest_of))]
 pub fn largest(abs12: Real, abs13: Real, abs23: Real) -> OffDiag
     ensures { result ≡ largest_of abs12 abs13 abs23 }
 {

@@ -22,6 +22,7 @@ pub(crate) fn larger(a: Real, b: Real) -> Real
 }
 
 // The tangent by theta. Where its square is not finite, the inverse of twice theta is near enough.
+#[tactic(auto, unfolding(crate::specs::Rotation::tangent_of))]
 fn tangent(theta: Real) -> Real
     ensures { result ≡ tangent_of F theta }
 {
@@ -41,6 +42,7 @@ fn turned_by(t: Real) -> Rotation
 }
 
 // The rotation that takes apq away, between the diagonal numbers app and aqq.
+#[tactic(auto, unfolding(crate::specs::Rotation::rotation_of))]
 pub fn compute_jacobi_rotation(apq: Real, app: Real, aqq: Real) -> Rotation
     ensures { result ≡ rotation_of F apq app aqq }
 {
