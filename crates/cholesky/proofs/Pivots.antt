@@ -1,14 +1,11 @@
 -- What a factor makes of a pivot step: with a root it goes on, and in any other case it stops with the early writes.
-use Rattle.float.proofs.Words.{◌≡◌, refl, sym, ap, ◌∙◌, Bool, true, false, false≢true, List, [], ◌∷◌, ⊎_elim, ℕ, arith, Float, Format, lt, le, is_nan}
+use Rattle.float.proofs.Words.{◌≡◌, refl, sym, ap, ◌∙◌, Bool, true, false, false≢true, List, ⊎_elim, ℕ, arith, Float, Format, lt, le, is_nan}
 use Rattle.float.specs.Choice.{pick}
 use Rattle.float.specs.Constants.{zero_f}
 use Rattle.float.specs.Exactly.{Exactly, OneOfThree}
 use Rattle.float.specs.Root.{root_of}
 use Rattle.float.specs.Width.{F}
 use Rattle.float.proofs.Invalid.{one_of_three}
-use types.Run.{OneOf}
-use denote.Enum.Declared.{tag_of}
-use Rattle.cholesky.specs.contracts.pivot.Pivot.{the_type}
 use Rattle.cholesky.specs.Pivot.{PivotAnswer, with_root_of, without_root, pivot_answer, pivot_of, has_root, Cases}
 use Rattle.cholesky.specs.Factor.{FactorAnswer, stopped, with_root}
 use Rattle.cholesky.specs.declared.pivot.Pivot.{Pivot}
@@ -23,8 +20,8 @@ module _ (f : Format) (p : Pivot) {a : PivotAnswer} (h : pivot_answer f p ≡ a)
   stops_at e = rw h (rw (rw h at e))
 
 -- the cases behind the first have no root
-pub no_root : (f : Format) (p : Pivot) → OneOf (1 ∷ 2 ∷ []) (tag_of the_type p) → has_root (pivot_answer f p) ≡ false
-no_root f (Root x) h = absurd (⊎_elim (λ e. omega arith) (λ e. omega arith) h)
+pub no_root : (f : Format) (p : Pivot) → ((x : Float) → p ≡ Root x → ⊥) → has_root (pivot_answer f p) ≡ false
+no_root f (Root x) h = absurd (h x refl)
 no_root f (AtMostZero k) h = refl
 no_root f (NotANumber k) h = refl
 

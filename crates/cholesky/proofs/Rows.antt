@@ -1,5 +1,5 @@
 -- The codes of the Cholesky kernels by their rows: 5, then 6 or 9, then 7. The tests of the pivots decide whether one is at most zero, and whether one is NaN.
-use Rattle.float.proofs.Words.{take, ◌≡◌, refl, sym, ◌∙◌, Bool, true, false, false≢true, List, [], ◌∷◌, ◌++◌, ℕ, zero, suc, ◌<◌, arith}
+use Rattle.float.proofs.Words.{take, ◌≡◌, refl, sym, ◌∙◌, Bool, false, false≢true, List, [], ◌∷◌, ◌++◌, ℕ, zero, suc, ◌<◌, arith}
 use Rattle.float.proofs.Words.{length, inl, inr, Float, Format, le, is_nan}
 use Rattle.float.specs.Choice.{pick}
 use Rattle.float.specs.Constants.{zero_f}

@@ -24,6 +24,7 @@ pub struct Refusal {
 }
 
 // A pivot that is at most zero is refused, -0 too, and so is a NaN, which the crate lets pass.
+#[tactic(auto, unfolding(crate::specs::Pivot::pivot_of))]
 pub fn pivot_step(t: Real, k: u8) -> Pivot
     ensures { pivot_answer F result ≡ pivot_of F t k }
 {
