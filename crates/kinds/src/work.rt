@@ -160,6 +160,7 @@ fn whole_factor(left: [Real; 9]) -> Worked
 }
 
 // On refusal the early writes are no answer.
+#[tactic(auto, unfolding(crate::specs::Work::from_factor))]
 fn from_factor2(r: Factor2) -> Worked
     ensures { result ≡ from_factor F 3 (of_factor2 r) }
 {
@@ -172,6 +173,7 @@ fn from_factor2(r: Factor2) -> Worked
     whole_factor([d[0], d[1], d[2], 0.0, 0.0, 0.0, 0.0, 0.0, 0.0])
 }
 
+#[tactic(auto, unfolding(crate::specs::Work::from_factor))]
 fn from_factor3(r: Factor3) -> Worked
     ensures { result ≡ from_factor F 6 (of_factor3 r) }
 {
@@ -249,6 +251,7 @@ fn mat3(a: [Real; 9]) -> Mat3
 }
 
 // The answer of a kernel to its numbers; 3 where there is no kernel.
+#[tactic(auto, unfolding(crate::specs::Work::answered_by))]
 fn answered_by(kernel: Kernel, a: Asked) -> Worked
     ensures { result ≡ answered_by F kernel a }
 {
