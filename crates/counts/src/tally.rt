@@ -111,8 +111,7 @@ fn ended(counts: &mut [u64], fits: bool) -> u8
 }
 
 // The empty tally.
-#[unsafe(no_mangle)]
-pub extern "C" fn zanikory_tally_clear(counts: &mut [u64]) -> u8
+pub fn zanikory_tally_clear(counts: &mut [u64]) -> u8
     ensures { Left (cleared_of counts.old) result counts.new }
 {
     if counts.len() != TALLY_SIZE {
@@ -123,8 +122,7 @@ pub extern "C" fn zanikory_tally_clear(counts: &mut [u64]) -> u8
 }
 
 // A tally with one answer more.
-#[unsafe(no_mangle)]
-pub extern "C" fn zanikory_tally_record(counts: &mut [u64], answer: &[u8]) -> u8
+pub fn zanikory_tally_record(counts: &mut [u64], answer: &[u8]) -> u8
     ensures { Left (with_record F counts.old answer.now) result counts.new }
 {
     if counts.len() != TALLY_SIZE {
@@ -138,8 +136,7 @@ pub extern "C" fn zanikory_tally_record(counts: &mut [u64], answer: &[u8]) -> u8
 }
 
 // A tally with the answers of a file more, and with its bytes left over.
-#[unsafe(no_mangle)]
-pub extern "C" fn zanikory_tally_file(counts: &mut [u64], answers: &[u8]) -> u8
+pub fn zanikory_tally_file(counts: &mut [u64], answers: &[u8]) -> u8
     ensures { Left (with_file F counts.old answers.now) result counts.new }
 {
     if counts.len() != TALLY_SIZE {
@@ -150,8 +147,7 @@ pub extern "C" fn zanikory_tally_file(counts: &mut [u64], answers: &[u8]) -> u8
 }
 
 // The tally of a file.
-#[unsafe(no_mangle)]
-pub extern "C" fn zanikory_tally_of(counts: &mut [u64], answers: &[u8]) -> u8
+pub fn zanikory_tally_of(counts: &mut [u64], answers: &[u8]) -> u8
     ensures { Left (tallied_of F counts.old answers.now) result counts.new }
 {
     if counts.len() != TALLY_SIZE {
@@ -163,8 +159,7 @@ pub extern "C" fn zanikory_tally_of(counts: &mut [u64], answers: &[u8]) -> u8
 }
 
 // A tally with another one more.
-#[unsafe(no_mangle)]
-pub extern "C" fn zanikory_tally_add(counts: &mut [u64], more: &[u64]) -> u8
+pub fn zanikory_tally_add(counts: &mut [u64], more: &[u64]) -> u8
     ensures { Left (with_tally counts.old more.now) result counts.new }
 {
     if counts.len() != TALLY_SIZE {

@@ -43,8 +43,7 @@ fn put_record(out: &mut [u8], event: [u8; EVENT_SIZE], kind: u8, w: Worked)
 }
 
 // The code, with the answer to any request in the answer slice. An answer slice of the wrong size stays as it is.
-#[unsafe(no_mangle)]
-pub extern "C" fn zanikory_answer_record(request: &[u8], answer: &mut [u8]) -> u8
+pub fn zanikory_answer_record(request: &[u8], answer: &mut [u8]) -> u8
     ensures { Stepped (record_step_of F request.now answer.old) result answer.new }
 {
     if answer.len() != ANSWER_SIZE {

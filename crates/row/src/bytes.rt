@@ -137,8 +137,7 @@ fn answer_place(mats: &[u8], answers: &mut [u8], i: usize)
 }
 
 // The row call of `rows` on bytes: nine numbers for a matrix, and SVD_SIZE bytes for an answer.
-#[unsafe(no_mangle)]
-pub extern "C" fn zanikory_svd_3x3_row(mats: &[u8], answers: &mut [u8]) -> u8
+pub fn zanikory_svd_3x3_row(mats: &[u8], answers: &mut [u8]) -> u8
     ensures { Outcome (svd_row_bytes_of F mats.now answers.old) result answers.new }
 {
     let code = bytes_code(mats.len(), answers.len());
