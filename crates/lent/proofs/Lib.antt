@@ -1,4 +1,2 @@
-pub mod Values
-pub mod Promise
 pub mod Unique
 pub mod Kept

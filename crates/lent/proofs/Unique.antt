@@ -6,7 +6,7 @@ use Rattle.matrix.specs.declared.symmetric.Sym3.{Sym3}
 use Rattle.matrix.specs.declared.symmetric.Sym3Answer.{Sym3Answer}
 use Rattle.jacobi.specs.declared.pairs.Pair.{Pair}
 use Rattle.jacobi.specs.declared.rotation.Rotation.{Rotation}
-use Rattle.lent.proofs.Promise as rotate-in-place
+use Rattle.lent.proofs.rotate_in_place.Reads as rotate-in-place
 use Rattle.lent.proofs.rotate.Reads as rotate
 
 pub one_rotate_in_place : (κs : Lfts 1) (a : _) → OneOutcome (rotate-in-place.Post κs a) (λ s. s.0.now)

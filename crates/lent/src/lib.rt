@@ -45,7 +45,7 @@ fn rotated(a: Sym3, p: Pair, r: Rotation) -> Sym3Answer
     }
 }
 
-// Rotates the pair of the lent matrix. The old matrix is stored on refusal too, so that no branch is walked by hand.
+// Rotates the pair of the lent matrix. On refusal the old matrix is stored again.
 pub fn rotate_in_place(a: &mut Sym3, p: Pair, r: Rotation) -> u8
     ensures { Left (rotated_of F p r a.old.«data») result a.new }
 {
@@ -55,7 +55,7 @@ pub fn rotate_in_place(a: &mut Sym3, p: Pair, r: Rotation) -> u8
     w.code
 }
 
-// The same on a copy, which it lends: a caller that lends a matrix itself has to be proved by hand, and one that calls this has not.
+// The same on a copy, which it lends.
 pub fn rotate(a: Sym3, p: Pair, r: Rotation) -> Sym3Answer
     ensures { result ≡ sym3_answer (rotated_of F p r a.«data») }
 {
