@@ -32,6 +32,7 @@ fn unused_zero(s: &[u8], kind: u8) -> bool
     false
 }
 
+#[tactic(auto, unfolding(crate::specs::Request::form_of))]
 fn form_of(s: &[u8]) -> u8
     requires { length s.now ≡ request_size F }
     ensures { result ≡ form_of F s.now }
@@ -50,6 +51,7 @@ fn form_of(s: &[u8]) -> u8
 }
 
 // The tests of 3 and 4 on a request's bytes: 0, 3 or 4; and 1 for a slice of another size.
+#[tactic(auto, unfolding(crate::specs::Request::sized_form_of))]
 pub fn form(request: &[u8]) -> u8
     ensures { result ≡ sized_form_of F request.now }
 {
