@@ -3,6 +3,6 @@
 
 pub mod answers;
 pub mod codes;
-pub mod core;
+pub mod core3x3;
 pub mod square;
 pub mod symmetric;

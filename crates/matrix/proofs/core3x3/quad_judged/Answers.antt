@@ -1,7 +1,7 @@
 -- Where all numbers are finite the form is judged, and else refused.
 use Rattle.float.proofs.Judged.{stands, refuses}
 use Rattle.matrix.specs.Arithmetic.{quad_judged_of}
-use Rattle.matrix.proofs.core.quad_judged.Goals as goal
+use Rattle.matrix.proofs.core3x3.quad_judged.Goals as goal
 
 pub returns-then-three_finite : goal.returns-then-three_finite
 unfolding quad_judged_of
