@@ -2,6 +2,7 @@
 use Rattle.float.proofs.Words.{◌≡◌, ap, ◌∙◌, Bool, ◌||◌, List, Float, Format, lt}
 use Rattle.float.specs.Constants.{limit_f}
 use Rattle.matrix.specs.declared.square.Mat3.{Mat3}
+use Rattle.matrix.specs.declared.symmetric.Sym3.{Sym3}
 use Rattle.matrix.specs.Square.{mat3}
 use Rattle.jacobi.specs.Pairs.{turned_of}
 use Rattle.jacobi.specs.Run.{one_more}
@@ -26,6 +27,13 @@ bare_step f = watched_step (bare_step_of f) (λ (s : BareState). settled_of f s.
 
 abbrev pub bare_done : Format → Watched BareState → Bool
 bare_done f w = settled_of f w.state.matrix
+
+-- what the loops hold, as such a state
+abbrev pub full_state : Sym3 → Mat3 → Made → Bool → Watched State
+full_state b v m blind = record { state = record { matrix = b.«data»; vectors = v.«data»; made = m }; blind = blind }
+
+abbrev pub bare_state : Sym3 → Made → Bool → Watched BareState
+bare_state b m blind = record { state = record { matrix = b.«data»; made = m }; blind = blind }
 
 -- ---- one of them
 

@@ -36,6 +36,7 @@ pub struct EigVals2 {
 }
 
 // The columns stay only if e1 < e2: a tie exchanges them (dense2x2/eigen.rs, lines 36 to 53).
+#[tactic(auto, unfolding(crate::specs::Eigen2x2::axes_of, jacobi::specs::Order::ordered))]
 fn axes(r: Rotation, e1: Real, e2: Real) -> Axes2
     ensures { result ≡ axes2 (axes_of r e1 e2) }
 {
@@ -59,6 +60,7 @@ fn axes(r: Rotation, e1: Real, e2: Real) -> Axes2
 }
 
 // One rotation, and the order of what it leaves (lines 23 to 35).
+#[tactic(auto, unfolding(crate::specs::Eigen2x2::solved2))]
 fn eig2(a: Sym2) -> Axes2
     ensures { result ≡ axes2 (solved2 F a.«data») }
 {

@@ -147,6 +147,7 @@ fn refused(code: u8) -> Eigen3
 }
 
 // The diagonal in order, with its columns (lines 238 to 241).
+#[tactic(auto, unfolding(crate::specs::Eigen3x3::ranked_of))]
 fn rank(w: Working) -> Sorted
     ensures { result ≡ sorted (ranked_of (of_working w).state) }
 {

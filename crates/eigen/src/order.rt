@@ -15,18 +15,21 @@ pub struct Sorted {
     pub columns: Mat3,
 }
 
+#[tactic(auto, unfolding(jacobi::specs::Order::ordered))]
 fn order12(v: [Real; 3]) -> [Real; 3]
     ensures { result ≡ ordered_values 0 1 v }
 {
     if v[0] > v[1] { [v[1], v[0], v[2]] } else { v }
 }
 
+#[tactic(auto, unfolding(jacobi::specs::Order::ordered))]
 fn order13(v: [Real; 3]) -> [Real; 3]
     ensures { result ≡ ordered_values 0 2 v }
 {
     if v[0] > v[2] { [v[2], v[1], v[0]] } else { v }
 }
 
+#[tactic(auto, unfolding(jacobi::specs::Order::ordered))]
 fn order23(v: [Real; 3]) -> [Real; 3]
     ensures { result ≡ ordered_values 1 2 v }
 {
@@ -40,6 +43,7 @@ pub fn sort3(a: Real, b: Real, c: Real) -> [Real; 3]
     order23(order13(order12([a, b, c])))
 }
 
+#[tactic(auto, unfolding(jacobi::specs::Order::ordered))]
 fn rank12(w: Sorted) -> Sorted
     ensures { result ≡ sorted (ordered 3 ascending (exchange_of 3) 0 1 (ranked w)) }
 {
@@ -55,6 +59,7 @@ fn rank12(w: Sorted) -> Sorted
     }
 }
 
+#[tactic(auto, unfolding(jacobi::specs::Order::ordered))]
 fn rank13(w: Sorted) -> Sorted
     ensures { result ≡ sorted (ordered 3 ascending (exchange_of 3) 0 2 (ranked w)) }
 {
@@ -70,6 +75,7 @@ fn rank13(w: Sorted) -> Sorted
     }
 }
 
+#[tactic(auto, unfolding(jacobi::specs::Order::ordered))]
 fn rank23(w: Sorted) -> Sorted
     ensures { result ≡ sorted (ordered 3 ascending (exchange_of 3) 1 2 (ranked w)) }
 {
