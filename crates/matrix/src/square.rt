@@ -43,6 +43,7 @@ pub struct Size {
 }
 
 // The place of (r, c) in a matrix of size n.
+#[tactic(auto, unfolding(crate::specs::Indexed::inside))]
 fn square_place(n: usize, r: usize, c: usize) -> Place
     requires { n ≤ 3 }
     ensures { place result ≡ index_of n r c (square_index n r c) }
@@ -53,6 +54,7 @@ fn square_place(n: usize, r: usize, c: usize) -> Place
     if n <= c {
         return Place::Outside;
     }
+    // past both tests the place is below 9, so nothing overflows
     Place::At(r + c * n)
 }
 
