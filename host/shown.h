@@ -1,4 +1,4 @@
-/* The C entries of target/staticlib/libshown.a, which `rt staticlib shown` writes. They are no part of the
+/* The C entries of target/staticlib/libshown.a, which `tools/build shown` writes. They are no part of the
    product: they are there for host/nan_bits.c and host/nan_moves.c, which look at the bits of NaNs, and for
    host/roots.c. The promise of each says NaN and not which. What zanikory.h says of the floating-point state
    holds here too. */

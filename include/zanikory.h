@@ -1,9 +1,9 @@
 /* The C entries of the proved libraries, for programs in C (C99) and C++ (C++11) on x86-64. Every argument
    has an answer.
 
-   The entry on records is in target/staticlib/librecord.a, which `rt staticlib record` writes. Those on
-   doubles are in target/staticlib/libexports.a, which `rt staticlib exports` writes. The one on rows is in
-   target/staticlib/librow.a, which `rt staticlib row` writes. One program may be linked with all of them:
+   The entry on records is in target/staticlib/librecord.a, which `tools/build record` writes. Those on
+   doubles are in target/staticlib/libexports.a, which `tools/build exports` writes. The one on rows is in
+   target/staticlib/librow.a, which `tools/build row` writes. One program may be linked with all of them:
    no name is in two.
 
    All of them want the floating-point state that a program starts with: rounding to nearest, and

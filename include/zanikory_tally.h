@@ -1,5 +1,5 @@
 /* The C entries on tallies, for programs in C (C99) and C++ (C++11) on x86-64. Every argument has an answer.
-   They are in target/staticlib/libcounts.a, which `rt staticlib counts` writes. A program may be linked with
+   They are in target/staticlib/libcounts.a, which `tools/build counts` writes. A program may be linked with
    the libraries of zanikory.h too: no name is in two of them.
 
    A tally counts the answers of a file: for each kind how many have each code, and how many of those with

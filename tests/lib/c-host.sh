@@ -4,26 +4,20 @@
 # 77 where nothing can run.
 
 command -v rt >/dev/null || { echo "${0##*/} could not run: there is no rt"; exit 77; }
-rt doc >/dev/null || { echo "${0##*/} could not run: rt has no kit for this machine"; exit 77; }
+kit=$(rt doc) || { echo "${0##*/} could not run: rt has no kit for this machine"; exit 77; }
+kit=$(dirname "$kit")
 . tests/lib/run-proved.sh
 
 room=target/host
 # one rounding for each operation
 flags='-Wall -Wextra -pedantic -ffp-contract=off -Iinclude'
 
-# Whether a crate's library is missing, or older than a source or than what was last proved.
-library_is_old() { # CRATE
-    [ -f "target/staticlib/lib$1.a" ] || return 0
-    [ -n "$(find crates.txt crates "target/rlib/$1.rlib" -newer "target/staticlib/lib$1.a" 2>/dev/null | head -n 1)" ]
-}
-
-# Sets `libraries` to the paths of the crates' libraries, each built anew where it is old.
-make_libraries() { # CRATE..
+# Sets `libraries` to the paths of the libraries, each proved and built anew where it is old.
+make_libraries() { # LIBRARY..
+    mkdir -p target
+    tools/build "$@" >"target/${0##*/}.log" 2>&1 || { cat "target/${0##*/}.log"; exit 1; }
     libraries=''
-    for crate; do
-        if library_is_old "$crate"; then rt staticlib "$crate"; fi
-        libraries="$libraries target/staticlib/lib$crate.a"
-    done
+    for library; do libraries="$libraries target/staticlib/lib$library.a"; done
 }
 
 # Whether a compiler makes a program of an empty source that includes a header: it may lack headers, or a linker.
@@ -46,7 +40,7 @@ choose_compiler() {
 
 # The kit's compiler, which has no headers of its own.
 kit_clang() { # WORDS..
-    "$kit_own/toolchain/bin/clang" --target=x86_64-unknown-linux-gnu -fPIE -nostdinc -isystem tests/lib/c-headers "$@"
+    "$kit/toolchain/bin/clang" --target=x86_64-unknown-linux-gnu -fPIE -nostdinc -isystem tests/lib/c-headers "$@"
 }
 
 # Builds a program of a C source, of object files besides it, and of `libraries`.
@@ -58,12 +52,12 @@ build() { # SOURCE LEVEL PROGRAM OBJECT..
         cc -std=c99 $flags "-O$level" "$source" "$@" $libraries -o "$built"
     else
         kit_clang -std=c99 $flags "-O$level" -c "$source" -o "$built.o"
-        "$kit_own/bin/rattle-link" --target x86_64-unknown-linux-gnu --toolchain "$kit_own/toolchain" \
+        "$kit/bin/rattle-link" --target x86_64-unknown-linux-gnu --toolchain "$kit/toolchain" \
             -o "$built" "$built.o" "$@" $libraries 2>&1
     fi
 }
 
-# program_of SOURCE.c CRATE..: builds it with the crates' libraries, and sets `program` to its path.
+# program_of SOURCE.c LIBRARY..: builds it with the libraries, and sets `program` to its path.
 program_of() {
     source_of=$1 program=$room/$(basename "$1" .c)
     shift
@@ -73,7 +67,7 @@ program_of() {
     build "$source_of" 2 "$program"
 }
 
-# host_program NAME CRATE..: the same of host/NAME.c.
+# host_program NAME LIBRARY..: the same of host/NAME.c.
 host_program() {
     host_name=$1
     shift
@@ -95,7 +89,7 @@ prints_its_lines() { # NAME PROGRAM
     fi
 }
 
-# host_test NAME CRATE..: host/NAME.c, with the crates' libraries, does so at -O0 and at -O2.
+# host_test NAME LIBRARY..: host/NAME.c, with the libraries, does so at -O0 and at -O2.
 host_test() {
     host_name=$1
     shift

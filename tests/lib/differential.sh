@@ -4,10 +4,9 @@
 
 test=$(basename "$0")
 oracle=$(oracle/build) || exit $?
-# no proof is done again where nothing changed
 mkdir -p target
 # shellcheck disable=SC2086
-if ! rt check ${proved:-probe} >"target/$test.log" 2>&1; then
+if ! tools/build ${proved:-probe} >"target/$test.log" 2>&1; then
     cat "target/$test.log"
     exit 1
 fi
