@@ -6,7 +6,7 @@ use std::process::{Child, ChildStdin, Command, Stdio};
 use std::thread;
 
 /// In kB. The requests come through a pipe that stays open until all answers are there, so that the
-/// program still lives when it is asked. Where it runs under an emulator, the memory is that of both.
+/// program still lives when it is asked.
 pub fn peak(words: &[&str], requests: &str, answers: usize) -> Result<u64, String> {
     let mut command = Command::new(words[0]);
     let command = command

@@ -21,7 +21,7 @@ const THEIRS: &str = "target/bench/answers-of-oracle";
 
 const ORACLE: [&str; 2] = ["target/oracle/oracle", "answers"];
 
-/// The proved build, under an emulator where the processor is another kind.
+/// The proved build, as the tests start it.
 const PROVED: [&str; 2] = ["tests/lib/run-proved", "target/bin/answers"];
 
 /// The nanoseconds of both programs on an empty file, and what files of each size took.
@@ -98,7 +98,7 @@ fn remove(paths: &[&str]) {
     }
 }
 
-/// `program` are the words that start the program on this processor, without an emulator.
+/// `program` are the words that start the program on this processor.
 pub fn all(program: &[&str], tell: &mut dyn FnMut(&dyn fmt::Display)) -> Result<Files, String> {
     let start = race_of_programs(program, STARTS, "program, empty file", &[])?;
     tell(&start);
