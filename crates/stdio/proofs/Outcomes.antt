@@ -12,6 +12,11 @@ pub counts : (z : ℤ) → SFits w64 z → lt_z (pos 0) z ≡ true → T (non_ne
 counts (pos n) f h = (tt, record { fits = lt_of_lt_of_le f.sfits (lit≤ tt) })
 counts (negsuc n) f h = absurd (false≢true h)
 
+pub counted : (n most : ℕ) → 0 < n → outcome_of (pos n) most false ≡ Bytes (min n most)
+unfolding outcome_of
+counted zero most h = absurd (omega arith)
+counted (suc k) most h = refl
+
 module _ (most : ℕ) (interrupted : Bool) where
   moved : (z : ℤ) → lt_z (pos 0) z ≡ true → outcome_of z most interrupted ≡ Bytes (min (nat_abs z) most)
   unfolding outcome_of

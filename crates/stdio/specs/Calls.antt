@@ -1,15 +1,22 @@
 -- How a read or a write ended, and how far a writing has come. Definitions only.
-use Rattle.std.specs.Prelude.{◌≡◌, Bool, List, ℕ, zero, suc, ◌+◌, ◌-◌, ◌^◌, ◌≤◌, min, ltb, take, ℤ, pos, negsuc}
+use Rattle.std.specs.Prelude.{◌≡◌, Bool, false, List, ℕ, zero, suc, ◌+◌, ◌-◌, ◌^◌, ◌≤◌, min, ltb, take, ℤ, pos, negsuc, Result, Ok, Err}
+use Rattle.std.specs.declared.io.Error.{Error}
 use Rattle.float.specs.Choice.{pick}
 use Rattle.stdio.specs.declared.Outcome.{Outcome}
 use Rattle.stdio.specs.declared.Outcome.TheVariants.{Bytes, Nothing, Interrupted, Failed}
 use Rattle.stdio.specs.declared.Writing.{Writing}
+use Rattle.stdio.specs.Errors.{broken_off}
 
 -- what a call that was handed `most` bytes did: above 0 it answers how many it moved, and below 0 that it failed or was broken off
 unfoldable pub outcome_of : ℤ → ℕ → Bool → Outcome
 outcome_of (pos zero) most interrupted = Nothing
 outcome_of (pos (suc k)) most interrupted = Bytes (min (suc k) most)
 outcome_of (negsuc k) most interrupted = pick interrupted Interrupted Failed
+
+-- the same of what a call of std's answers
+abbrev pub ended_of : Result ℕ Error → ℕ → Outcome
+ended_of (Ok n) most = outcome_of (pos n) most false
+ended_of (Err e) most = outcome_of (negsuc 0) most (broken_off e)
 
 -- so many calls a loop makes at most
 abbrev pub most_calls : ℕ

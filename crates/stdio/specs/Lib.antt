@@ -1,2 +1,3 @@
+pub mod Errors
 pub mod Calls
 pub mod Kept

@@ -2,9 +2,12 @@
 // next read. The calls themselves stand in the programs, since what they move no contract can say; what follows from it is said here.
 #![tactic(auto)]
 
-ghost use Rattle.std.specs.Prelude.{◌≡◌, ◌++◌, ◌+◌, ◌-◌, ◌≤◌, min, length, take, drop};
-ghost use Rattle.stdio.specs.Calls.{outcome_of, to_write_of, up_to, wrote_of};
+ghost use Rattle.std.specs.Prelude.{◌≡◌, false, pos, ◌++◌, ◌+◌, ◌-◌, ◌≤◌, min, length, take, drop};
+ghost use Rattle.stdio.specs.Calls.{outcome_of, ended_of, to_write_of, up_to, wrote_of};
 ghost use Rattle.stdio.specs.Kept.{kept_of};
+
+use std::io;
+use std::io::ErrorKind;
 
 // A proved loop has to end, and nothing says that the input does, or that a call is let through at last. So loops of calls count
 // down from a number that no run uses up.
@@ -40,6 +43,28 @@ pub fn outcome_of(got: isize, most: usize, interrupted: bool) -> Outcome
         return Outcome::Interrupted;
     }
     Outcome::Failed
+}
+
+fn moved(n: usize, most: usize) -> Outcome
+    ensures { result ≡ outcome_of (pos n) most false }
+{
+    if n == 0 {
+        return Outcome::Nothing;
+    }
+    if n < most {
+        return Outcome::Bytes(n);
+    }
+    Outcome::Bytes(most)
+}
+
+// The same of a call that answers how many bytes it moved, and else why it failed.
+pub fn ended(got: io::Result<usize>, most: usize) -> Outcome
+    ensures { result ≡ ended_of got most }
+{
+    match got {
+        Ok(n) => moved(n, most),
+        Err(e) => outcome_of(-1, most, e.kind() == ErrorKind::Interrupted),
+    }
 }
 
 // Bytes on their way out: so many are written, and so many calls may follow, which is none once the writing has ended.
