@@ -1,6 +1,6 @@
 -- What is served: the answers are there whether the write went well or not, and what is kept is the rest behind the whole requests. After
 -- each round the program is ready for the next.
-use Rattle.float.proofs.Words.{◌≡◌, ap, ◌∙◌, subst, subst⁻¹, Bool, true, false, List, ◌++◌, ℕ, ◌+◌, ◌-◌, ◌*◌, ◌/◌, ◌≤◌, ◌<◌, arith, ltb, ne_of_lt}
+use Rattle.float.proofs.Words.{◌≡◌, sym, ap, ◌∙◌, subst, subst⁻¹, Bool, true, false, List, ◌++◌, ℕ, ◌+◌, ◌-◌, ◌*◌, ◌/◌, ◌≤◌, ◌<◌, arith, ltb, ne_of_lt}
 use Rattle.float.proofs.Words.{length, take, take_at, length-take, length-drop}
 use Rattle.float.specs.Choice.{pick}
 use Rattle.float.specs.Width.{F}
@@ -11,13 +11,25 @@ use Rattle.stdio.specs.Kept.{whole_of, rest_of, kept_of}
 use Rattle.stdio.proofs.Rest.{rest_kept}
 use Rattle.record.specs.Layout.{request_size, answer_size}
 use Rattle.record.specs.Answer.{wrong_size_of, Step, record_step_of}
-use Rattle.record.proofs.Answers.{wrong_size, answer_size_lem}
+use Rattle.record.specs.Stream.{whole_records, answers_of, stream_of}
+use Rattle.record.proofs.Answers.{wrong_size, answer_size_lem, answers_size}
 use Rattle.answers.specs.declared.decide.End.{End}
 use Rattle.answers.specs.declared.decide.End.TheVariants.{Well, CannotRead, CannotWrite}
 use Rattle.answers.specs.declared.decide.State.{State}
 use Rattle.answers.specs.Buffers.{batch, room}
 use Rattle.answers.specs.States.{go_on, stop_of, after_answers, Ready}
 use Rattle.answers.specs.Rounds.{Answered, Served, Followed}
+
+pub all_answered : (total : ℕ) (buf out : List ℕ) → length buf ≡ 65536 → length out ≡ 65536 → total ≤ room F
+    → Answered F (take total buf) (stream_of F (take total buf) out).answers (total / request_size F)
+unfolding stream_of
+all_answered total buf out h k l =
+    let n = total / request_size F in
+    let size : length (take total buf) ≡ total = simp length-take (omega arith) in
+    let whole : whole_records F (length (take total buf)) (length out) ≡ n = rw (size, k) (omega arith) in (
+      sym (ap (λ (x : ℕ). x / request_size F) size),
+      rw whole (take_at (answers_of F n (take total buf)) _ _ (answers_size F n (take total buf) (rw size (omega arith)))),
+    )
 
 pub served : (buf left out : List ℕ) (total n gone : ℕ) (s t : State) → length buf ≡ 65536 → total ≤ room F
     → Answered F (take total buf) out n → gone ≤ answer_size F * n → left ≡ kept_of (request_size F * n) (total - request_size F * n) buf

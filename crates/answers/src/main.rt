@@ -22,6 +22,7 @@ use crate::decide::{End, State, after_answers, after_part, go_on, start, stop};
 use record::answer::zanikory_answer_record;
 use record::layout::{ANSWER_SIZE, REQUEST_SIZE};
 use record::stream::answer_all;
+use std::io::{Stdin, Stdout};
 use stdio::{Outcome, keep_rest};
 
 // The bytes of as many requests as a large buffer holds answers to.
@@ -37,13 +38,13 @@ fn answer_whole(buf: &[u8], out: &mut [u8], total: usize) -> usize
 }
 
 // Answers and writes the whole requests among the first `total` bytes, and keeps the rest.
-fn serve(buf: &mut [u8], out: &mut [u8], s: State, total: usize) -> State
+fn serve(output: Stdout, buf: &mut [u8], out: &mut [u8], s: State, total: usize) -> State
     requires { Large buf.old × Large out.old × Ready F s × (0 < s.rounds) × (total ≤ room F) }
     ensures { Served F (take total buf.old) buf.new out.new s result }
 {
     let n = answer_whole(buf, out, total);
     let end = ANSWER_SIZE * n;
-    let w = put(&out[..end]);
+    let w = put(output, &out[..end]);
     let from = REQUEST_SIZE * n;
     let kept = total - from;
     keep_rest(buf, from, kept);
@@ -59,7 +60,7 @@ fn answer_part(buf: &[u8], out: &mut [u8], have: usize)
 }
 
 // The end of the input. A part that is kept is the last one.
-fn serve_last(buf: &[u8], out: &mut [u8], s: State) -> State
+fn serve_last(output: Stdout, buf: &[u8], out: &mut [u8], s: State) -> State
     requires { Large buf.now × Large out.old × Ready F s }
     ensures { LastServed F out.new s result }
 {
@@ -68,50 +69,50 @@ fn serve_last(buf: &[u8], out: &mut [u8], s: State) -> State
         return stop(End::Well, s.written);
     }
     answer_part(buf, out, have);
-    let w = put(&out[..ANSWER_SIZE]);
+    let w = put(output, &out[..ANSWER_SIZE]);
     after_part(s, w.written)
 }
 
 // What follows a read that ended so.
-fn follow(o: Outcome, buf: &mut [u8], out: &mut [u8], s: State) -> State
+fn follow(output: Stdout, o: Outcome, buf: &mut [u8], out: &mut [u8], s: State) -> State
     requires { Large buf.old × Large out.old × Ready F s × (0 < s.rounds) × AtMost (room F - s.kept) o }
     ensures { Followed F o buf.old buf.new out.new s result }
 {
     match o {
-        Outcome::Bytes(n) => serve(buf, out, s, s.kept + n),
-        Outcome::Nothing => serve_last(buf, out, s),
+        Outcome::Bytes(n) => serve(output, buf, out, s, s.kept + n),
+        Outcome::Nothing => serve_last(output, buf, out, s),
         Outcome::Interrupted => go_on(s, s.kept, s.written),
         Outcome::Failed => stop(End::CannotRead, s.written),
     }
 }
 
 // What failed, if anything did.
-fn tell(end: End, written: u64) {
+fn tell(rt: HostRuntime, end: End, written: u64) {
     match end {
         End::Well => {},
-        End::CannotRead => say(b"answers: cannot read: ", written),
-        End::CannotWrite => say(b"answers: cannot write: ", written),
-        End::TooManyReads => say(b"answers: too many reads: ", written),
+        End::CannotRead => say(rt, "answers: cannot read: ", written),
+        End::CannotWrite => say(rt, "answers: cannot write: ", written),
+        End::TooManyReads => say(rt, "answers: too many reads: ", written),
     }
 }
 
 // Reads and serves, until no round follows.
-fn serve_input(buf: &mut [u8], out: &mut [u8]) -> State
+fn serve_input(input: Stdin, output: Stdout, buf: &mut [u8], out: &mut [u8]) -> State
     requires { Large buf.old × Large out.old }
     ensures { Finished F buf.new result }
 {
     let mut s = start();
     while s.rounds > 0 {
-        let o = read(buf, s.kept);
-        s = follow(o, buf, out, s);
+        let o = read(input, buf, s.kept);
+        s = follow(output, o, buf, out, s);
     }
     s
 }
 
-fn main() {
+fn main(rt: HostRuntime) {
     let mut buf = io::large_buffer();
     let mut out = io::large_buffer();
-    let s = serve_input(&mut buf, &mut out);
+    let s = serve_input(rt.stdin(), rt.stdout(), &mut buf, &mut out);
     let end = s.end;
-    tell(end, s.written);
+    tell(rt, end, s.written);
 }
