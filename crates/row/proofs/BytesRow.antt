@@ -91,9 +91,12 @@ filled-place f (suc n) i s h =
     let before = filled_bytes_of f n s in
     let last = svd_bytes_of f (single_of f (mat_at f n s)) in
     whether i n
-    (λ e. rw (e, answers_more f n s) (part-behind (svd_size f * n) (svd_size f) before last (row_bytes_length f n s) (single_bytes_length f (mat_at f n s) refl)))
+    (λ e.
+    rw (e, answers_more f n s)
+    (part-behind (svd_size f * n) (svd_size f) before last (row_bytes_length f n s) (single_bytes_length f (mat_at f n s) refl)))
     (λ u.
-    let room : svd_size f * i + svd_size f ≤ length before = rw (row_bytes_length f n s, ← mul-suc (svd_size f) i) (mul-le-mul_left (svd_size f) (omega arith)) in
+    let room : svd_size f * i + svd_size f ≤ length before =
+    rw (row_bytes_length f n s, ← mul-suc (svd_size f) i) (mul-le-mul_left (svd_size f) (omega arith)) in
     rw (answers_more f n s, part_within (svd_size f * i) (svd_size f) before last room) (filled-place f n i s (omega arith)))
 
 -- ---- the code
@@ -126,6 +129,13 @@ each_code P f m a k none =
       eq-eqb _ 0 (counted (mat_size f) n m (size_pos f) p.0).0,
       eq-eqb _ 0 (counted (svd_size f) n a (omega arith) p.1).0,
     )) ∙ t)))
+
+-- with code 0 both lengths are so many whole places
+pub whole_places : (f : Format) (m a : ℕ) → bytes_code_of f m a ≡ 0 → Places f m a (m / mat_size f)
+whole_places f m a =
+    each_code (λ (k : ℕ). k ≡ 0 → Places f m a (m / mat_size f)) f m a
+    (λ n p _. rw (counted (mat_size f) n m (size_pos f) p.0).1 p)
+    (λ _ e. absurd (omega arith))
 
 -- ---- the theorems
 

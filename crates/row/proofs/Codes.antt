@@ -10,7 +10,7 @@ use Rattle.matrix.specs.declared.square.Mat3.{Mat3}
 use Rattle.svd.specs.declared.svd3x3.Svd3.{Svd3}
 use Rattle.row.specs.Row.{most_places, row_code_of, svd_row_of}
 use Rattle.row.specs.Codes.{length_rows}
-use Rattle.row.proofs.Promise as svd-row
+use Rattle.row.proofs.rows.svd_row.Reads as svd-row
 
 by_most : (n k : ℕ) → Decides (not (leb n k)) (k < n)
 by_most n k = ((λ e. leb-false n k (not-true (leb n k) e)), (λ e h. omega (arith, leb-true n k (not-false (leb n k) e), h)))

@@ -1,19 +1,17 @@
 -- A row that is filled from the front: the first i places hold what a function gives for the matrices there, and the others what was found. Laws over any
 -- function, and what they make of the gate's number of places.
 use Rattle.float.proofs.Words.{◌≡◌, refl, sym, ap, ◌∙◌, List, [], ◌∷◌, ◌++◌, append-nil, map, ℕ, zero, suc, ◌≤◌, ◌<◌, min, arith, eqb, length, get_or, set}
-use Rattle.float.proofs.Words.{take, drop, length-append, length-take, length-drop, take_all, drop-length, le_refl, leb, leb-true, eqb-true, Format}
-use lib.ListN.{length-map, drop_of_length-le as drop_all}
+use Rattle.float.proofs.Words.{take, drop, take_all, drop-length, le_refl, leb, leb-true, eqb-true, Format}
+use lib.ListN.{drop_of_length-le as drop_all}
+use Rattle.float.specs.Width.{F}
 use Rattle.float.proofs.Choice.{by_test, by_eqb, both_chosen, either}
 use Rattle.matrix.specs.declared.square.Mat3.{Mat3}
 use Rattle.svd.specs.declared.svd3x3.Svd3.{Svd3}
-use Rattle.row.specs.Row.{most_places, row_code_of, single_of, gate_of, svd_row_of}
+use Rattle.row.specs.Row.{most_places, row_code_of, single_of, gate_of, svd_row_of, room_places, fill_of}
 
 module _ {A B : Type 0} (g : A → B) where
   abbrev pub filled_to : ℕ → List A → List B → List B
   filled_to i xs found = map g (take i xs) ++ drop i found
-
-  pub filled-length : (i : ℕ) (xs : List A) (found : List B) → i ≤ length xs → i ≤ length found → length (filled_to i xs found) ≡ length found
-  filled-length i xs found h k = simp (length-append, length-map, length-take, length-drop) (omega arith)
 
   -- one place more
   pub filled_next : (i : ℕ) (xs : List A) (found : List B) (d : A) → i < length xs → i < length found
@@ -66,3 +64,9 @@ drop_within n xs =
     either n (length xs)
     (λ l. let e : min n (length xs) ≡ n = omega arith in rw e)
     (λ l. drop_all xs {i = min n (length xs)} (omega arith) ∙ sym (drop_all xs l))
+
+-- so the call on copies may count a number above the arrays' length as this length
+pub same_fronts : (ms : List Mat3) (n : ℕ) (ys : List Svd3) (m : ℕ) → length ms ≡ room_places → length ys ≡ room_places
+    → fill_of F ms (min n room_places) ys (min m room_places) ≡ fill_of F ms n ys m
+unfolding fill_of
+same_fronts ms n ys m h k = rw (← h, take_within n ms, h, ← k, take_within m ys, drop_within m ys)

@@ -1,7 +1,4 @@
 pub mod Filling
-pub mod Values
-pub mod Lending
-pub mod Promise
 pub mod Codes
 pub mod Places
 pub mod Vouched

@@ -13,7 +13,7 @@ use Rattle.svd.specs.declared.svd3x3.Svd3.{Svd3}
 use Rattle.row.specs.Row.{most_places, row_code_of, single_of, svd_row_of}
 use Rattle.row.proofs.Filling.{code_zero}
 use Rattle.row.proofs.Codes.{row-codes, zero_told}
-use Rattle.row.proofs.Promise as svd-row
+use Rattle.row.proofs.rows.svd_row.Reads as svd-row
 
 module _ (f : Format) where
   pub row_empty : svd_row_of f [] [] ≡ done []

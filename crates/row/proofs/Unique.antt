@@ -7,7 +7,7 @@ use Rattle.float.proofs.OneAnswer.{named, both_named, left_named}
 use Rattle.matrix.specs.declared.square.Mat3.{Mat3}
 use Rattle.svd.specs.declared.svd3x3.Svd3.{Svd3}
 use Rattle.row.specs.declared.rows.Filled.{Filled}
-use Rattle.row.proofs.Promise as svd-row
+use Rattle.row.proofs.rows.svd_row.Reads as svd-row
 use Rattle.row.proofs.rows.svd_row_of.Reads as svd-row-of
 use Rattle.row.proofs.bytes.put_svd.Reads as put-svd
 use Rattle.row.proofs.bytes.zanikory_svd_3x3_row.Reads as svd-3x3-row

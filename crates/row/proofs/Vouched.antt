@@ -11,7 +11,7 @@ use Rattle.svd.specs.declared.svd3x3.Svd3.{Svd3}
 use Rattle.svd.proofs.Owed.{svd3_owed}
 use Rattle.row.specs.Row.{single_of, svd_row_of}
 use Rattle.row.proofs.Places.{place-done}
-use Rattle.row.proofs.Promise as svd-row
+use Rattle.row.proofs.rows.svd_row.Reads as svd-row
 
 pub single_vouched : (f : Format) (m : Mat3) → length m.«data» ≡ 9 → AllFull (svd3_parts (single_of f m))
 single_vouched f m n =

@@ -113,6 +113,7 @@ pub fn put_svd(out: &mut [u8], at: usize, r: Svd3)
 }
 
 // By the lengths alone. Bytes that are no whole places are rows of unequal length.
+#[tactic(auto, unfolding(crate::specs::Bytes::bytes_code_of, crate::specs::Row::gate_of))]
 fn bytes_code(mats: usize, answers: usize) -> u8
     ensures { result ≡ bytes_code_of F mats answers }
 {

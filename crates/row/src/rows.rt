@@ -19,6 +19,7 @@ pub(crate) struct Gate {
 }
 
 // By the lengths alone: of the matrices' row, and of the answers'.
+#[tactic(auto, unfolding(crate::specs::Row::gate_of, crate::specs::Row::row_code_of))]
 pub(crate) fn row_gate(mats: usize, answers: usize) -> Gate
     ensures { result ≡ gate_of mats answers }
 {
@@ -40,7 +41,7 @@ pub(crate) fn row_gate(mats: usize, answers: usize) -> Gate
     }
 }
 
-// Fills the lent row. The loop is the only branch, so that the proof by hand has no other: a refused row has no place to fill.
+// Fills the lent row. A refused row has no place to fill.
 pub fn svd_row(mats: &[Mat3], answers: &mut [Svd3]) -> u8
     ensures { Outcome (svd_row_of F mats.now answers.old) result answers.new }
 {
@@ -91,7 +92,7 @@ fn within(n: usize) -> usize
     ROOM
 }
 
-// The same on copies: a caller that lends rows itself has to be proved by hand, and one that calls this has not. Numbers above ROOM count as ROOM.
+// The same on copies. Numbers above ROOM count as ROOM.
 pub fn svd_row_of(mats: [Mat3; ROOM], n: usize, answers: [Svd3; ROOM], m: usize) -> Filled
     ensures { result ≡ fill_of F mats n answers m }
 {
