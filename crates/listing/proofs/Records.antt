@@ -1,7 +1,7 @@
 -- Adding up the columns gives the same as adding up the rows, and these have every record that is not foreign.
 use Rattle.float.proofs.Words.{◌≡◌, sym, ap, ◌∙◌, List, [], ◌∷◌, map, ℕ, ◌+◌, get_or, Format}
 use Rattle.counts.specs.Known.{codes}
-use Rattle.counts.specs.Cells.{coded, row_numbers, columns, place_of, foreign_at}
+use Rattle.counts.specs.Cells.{coded, row_numbers, place_of, foreign_at}
 use Rattle.counts.specs.Tally.{records_of, tally_of, total}
 use Rattle.counts.proofs.AddedUp.{total_plus, total_none, records_added}
 use Rattle.listing.specs.Page.{records_in}
