@@ -1,6 +1,6 @@
--- What is counted are the whole records among the bytes at hand, and what is kept is the rest behind them. After each round the program is
--- ready for the next.
-use Rattle.float.proofs.Words.{◌≡◌, sym, ap, ◌∙◌, subst, subst⁻¹, List, ℕ, ◌+◌, ◌-◌, ◌*◌, ◌/◌, ◌≤◌, ◌<◌, arith, eqb, length, take}
+-- The counts begin at nothing. What is counted are the whole records among the bytes at hand, and what is kept is the rest behind them.
+-- After each round the program is ready for the next.
+use Rattle.float.proofs.Words.{◌≡◌, sym, ap, ◌∙◌, subst, subst⁻¹, List, [], ℕ, ◌+◌, ◌-◌, ◌*◌, ◌/◌, ◌≤◌, ◌<◌, arith, eqb, eq-eqb, length, take}
 use Rattle.float.proofs.Words.{length-take, length-drop}
 use lib.Seq.{take-take}
 use Rattle.float.specs.Width.{F}
@@ -11,13 +11,30 @@ use Rattle.stdio.specs.Calls.{AtMost}
 use Rattle.stdio.specs.Kept.{rest_of, kept_of}
 use Rattle.stdio.proofs.Rest.{rest_kept}
 use Rattle.record.specs.Layout.{answer_size}
-use Rattle.counts.specs.Tally.{with_file, Left}
+use Rattle.counts.specs.Cells.{tally_size}
+use Rattle.counts.specs.Tally.{empty_tally, cleared_of, with_file, Left}
 use Rattle.tally.specs.declared.decide.End.{End}
 use Rattle.tally.specs.declared.decide.End.TheVariants.{Well, CannotRead, CountTooLarge}
 use Rattle.tally.specs.declared.decide.State.{State}
 use Rattle.tally.specs.Buffers.{room}
-use Rattle.tally.specs.States.{go_on, stop_of, after_count, Ready}
-use Rattle.tally.specs.Rounds.{whole_part, Counted, Followed}
+use Rattle.tally.specs.States.{start_of, go_on, stop_of, after_count, Ready}
+use Rattle.tally.specs.Rounds.{whole_part, Counted, Followed, Reached, first}
+
+-- what rounds led to
+pub record Led (buf counts : List ℕ) (s : State) : Type 0 where
+  pub seen : List ℕ
+  pub reached : Reached F seen buf counts s
+
+cleared : (counts left : List ℕ) → length counts ≡ tally_size → left ≡ (cleared_of counts).counts → left ≡ empty_tally
+unfolding cleared_of
+cleared counts left h e = e ∙ (rw (eq-eqb (length counts) tally_size h))
+
+pub led : (buf counts left : List ℕ) (s : State) → length counts ≡ tally_size → left ≡ (cleared_of counts).counts → s ≡ start_of → Led buf left s
+led buf counts left s h e k =
+    record {
+      seen = [];
+      reached = subst⁻¹ (Reached F [] buf left) k (subst⁻¹ (λ (l : List ℕ). Reached F [] buf l start_of) (cleared counts left h e) (first buf));
+    }
 
 pub counted : (buf left counts sums : List ℕ) (total code : ℕ) (s t : State) → length buf ≡ 65536 → total ≤ room F
     → Left (with_file F counts (take (answer_size F * (total / answer_size F)) buf)) code sums

@@ -34,5 +34,5 @@ pub told : (f : Format) (out : List ℕ) (e : End) (t : Tallied f out e) → Tel
 told f out e t = given f t.finished.seen out t.state.end t.counts e (finished_counts f t.counts t.state t.finished) t.given
 
 -- the same of the call, by its promise as the source states it
-pub told_call : (κs : Lfts 3) (a : _) (e : End) (s : _) (t : tally.Post κs a e s) → Tells F e t.finished.seen s.1.1.0.now
-told_call κs a e s t = told F s.1.1.0.now e t
+pub told_call : (κs : Lfts 3) (a : _) (e : End) (s : _) (t : tally.Post κs a e s) → Tells F e t.finished.seen s.1.1.1.1.0.now
+told_call κs a e s t = told F s.1.1.1.1.0.now e t

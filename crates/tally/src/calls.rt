@@ -7,25 +7,25 @@ ghost use Rattle.tally.specs.Buffers.{Large, room};
 ghost use Rattle.tally.specs.Given.{Text};
 
 use crate::ROOM;
-use libc::{EINTR, STDERR_FILENO, STDIN_FILENO, STDOUT_FILENO};
-use stdio::{Outcome, Writing, outcome_of, to_write, wrote};
+use std::io::{Read, Stdin, Stdout, Write};
+use stdio::{Outcome, Writing, ended, to_write, wrote};
 
-// What failed, in one line.
-pub(crate) fn say(what: &[u8]) {
-    io::write_all(STDERR_FILENO, what);
+// What failed, in one line. Where that cannot be said either, nothing is left to do.
+pub(crate) fn say(rt: HostRuntime, what: &str) {
+    let _ = eprintln!(rt; "{what}");
 }
 
 // One read, behind the `have` bytes that are kept. There is room for a byte at least, so that none read is the end of the input.
-pub(crate) fn read(buf: &mut [u8], have: usize) -> Outcome
+pub(crate) fn read(mut input: Stdin, buf: &mut [u8], have: usize) -> Outcome
     requires { Large buf.old × (have < room F) }
     ensures { ReadBehind have (room F) buf.old buf.new result }
 {
-    let got = libc::read(STDIN_FILENO, &mut buf[have..ROOM]);
-    outcome_of(got, ROOM - have, os::errno() == EINTR)
+    let got = input.read(&mut buf[have..ROOM]);
+    ended(got, ROOM - have)
 }
 
 // Writes a listing, until no call follows: fewer bytes are written than there are only if a write failed.
-pub(crate) fn put(out: &[u8]) -> Writing
+pub(crate) fn put(mut output: Stdout, out: &[u8]) -> Writing
     requires { Text out.now }
     ensures { Ended (length out.now) result }
 {
@@ -33,8 +33,8 @@ pub(crate) fn put(out: &[u8]) -> Writing
     let mut w = to_write(end);
     while w.calls > 0 {
         let from = w.written;
-        let got = libc::write(STDOUT_FILENO, &out[from..]);
-        w = wrote(w, end, outcome_of(got, end - from, os::errno() == EINTR));
+        let got = output.write(&out[from..]);
+        w = wrote(w, end, ended(got, end - from));
     }
     w
 }

@@ -23,6 +23,7 @@ use counts::tally::{zanikory_tally_clear, zanikory_tally_file};
 use listing::page::listing;
 use matrix::codes::DONE;
 use record::layout::ANSWER_SIZE;
+use std::io::{Stdin, Stdout};
 use stdio::{Outcome, keep_rest};
 
 // The bytes of as many answers as a large buffer holds.
@@ -64,40 +65,40 @@ fn follow(o: Outcome, buf: &mut [u8], counts: &mut [u64], s: State) -> State
 }
 
 // Reads and counts, until no round follows.
-fn serve_input(buf: &mut [u8], counts: &mut [u64]) -> State
+fn serve_input(input: Stdin, buf: &mut [u8], counts: &mut [u64]) -> State
     requires { Large buf.old × Table counts.old }
     ensures { Finished F counts.new result }
 {
     zanikory_tally_clear(counts);
     let mut s = start();
     while s.rounds > 0 {
-        let o = read(buf, s.kept);
+        let o = read(input, buf, s.kept);
         s = follow(o, buf, counts, s);
     }
     s
 }
 
 // Writes the listing of all that was counted.
-fn list(counts: &[u64], out: &mut [u8]) -> End
+fn list(output: Stdout, counts: &[u64], out: &mut [u8]) -> End
     requires { Table counts.now × Large out.old }
     ensures { Shown counts.now out.new result }
 {
     let l = listing(counts, out);
     let size = l.size;
     if l.code == DONE {
-        let w = put(&out[..size]);
+        let w = put(output, &out[..size]);
         return after_listing(w.written, size);
     }
     End::CountTooLarge
 }
 
 // The listing, where the input was counted to its end.
-fn give(end: End, counts: &[u64], out: &mut [u8]) -> End
+fn give(output: Stdout, end: End, counts: &[u64], out: &mut [u8]) -> End
     requires { Table counts.now × Large out.old }
     ensures { Given end counts.now out.new result }
 {
     match end {
-        End::Well => list(counts, out),
+        End::Well => list(output, counts, out),
         End::CannotRead => End::CannotRead,
         End::CannotWrite => End::CannotWrite,
         End::CountTooLarge => End::CountTooLarge,
@@ -106,30 +107,30 @@ fn give(end: End, counts: &[u64], out: &mut [u8]) -> End
 }
 
 // From the first read to the last write.
-fn tally(buf: &mut [u8], counts: &mut [u64], out: &mut [u8]) -> End
+fn tally(input: Stdin, output: Stdout, buf: &mut [u8], counts: &mut [u64], out: &mut [u8]) -> End
     requires { Large buf.old × Table counts.old × Large out.old }
     ensures { Tallied F out.new result }
 {
-    let s = serve_input(buf, counts);
+    let s = serve_input(input, buf, counts);
     let end = s.end;
-    give(end, counts, out)
+    give(output, end, counts, out)
 }
 
 // What failed, if anything did.
-fn tell(end: End) {
+fn tell(rt: HostRuntime, end: End) {
     match end {
         End::Well => {},
-        End::CannotRead => say(b"tally: cannot read\n"),
-        End::CannotWrite => say(b"tally: cannot write\n"),
-        End::CountTooLarge => say(b"tally: a count passes 64 bits (14)\n"),
-        End::TooManyReads => say(b"tally: too many reads\n"),
+        End::CannotRead => say(rt, "tally: cannot read"),
+        End::CannotWrite => say(rt, "tally: cannot write"),
+        End::CountTooLarge => say(rt, "tally: a count passes 64 bits (14)"),
+        End::TooManyReads => say(rt, "tally: too many reads"),
     }
 }
 
-fn main() {
+fn main(rt: HostRuntime) {
     let mut buf = io::large_buffer();
     let mut out = io::large_buffer();
     let mut counts = [0u64; TALLY_SIZE];
-    let end = tally(&mut buf, &mut counts, &mut out);
-    tell(end);
+    let end = tally(rt.stdin(), rt.stdout(), &mut buf, &mut counts, &mut out);
+    tell(rt, end);
 }
