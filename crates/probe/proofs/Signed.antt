@@ -1,6 +1,6 @@
 -- A signed number by its sign: from 0 on it is its own magnitude, and below 0 -1 - z is. The other way, -1 - n is signed for each n below 2^63.
-use Rattle.float.proofs.Words.{◌≡◌, refl, ap, ◌∙◌, subst⁻¹, true, false, true≢false, ℕ, zero, suc, ◌<◌, lt_of_lt_of_le, arith, T, lit≤, ℤ, pos, negsuc, nat_abs}
-use Rattle.float.proofs.Words.{◌-ℤ◌, ltb-true, le-ltb}
+use Rattle.float.proofs.Words.{◌≡◌, refl, ap, ◌∙◌, subst⁻¹, true, false, true≢false, ℕ, zero, suc, ◌<◌, lt_of_lt_of_le, arith, T, lit≤, ℤ, pos, negsuc}
+use Rattle.float.proofs.Words.{nat_abs, ◌-ℤ◌, ltb-true, le-ltb}
 use lib.Signed.{non_neg, mag, lt_z}
 use mir.Syntax.{w64}
 use mir.Val.{to_z, of_z, SFits, Fits}

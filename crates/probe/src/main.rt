@@ -13,6 +13,7 @@ mod of_float;
 mod of_matrix;
 mod of_svd;
 mod operations;
+mod streams;
 mod words;
 
 ghost use Rattle.std.specs.Prelude.{◌≤◌, ◌<◌, ◌≡◌, length};
@@ -20,47 +21,48 @@ ghost use Rattle.probe.specs.Limits.{SmallItem};
 
 use crate::items::{Job, answer_items, item_at};
 use crate::operations::known;
+use crate::streams::{read_full, write_all};
 use crate::words::word;
-use libc::{STDERR_FILENO, STDIN_FILENO, STDOUT_FILENO};
 
-fn say(text: &[u8]) {
-    io::write_all(STDERR_FILENO, text);
+fn say(rt: &HostRuntime, text: &[u8]) {
+    write_all(&mut rt.stderr(), text);
 }
 
 // Whether the answers could be written.
-fn written(answers: &[u8]) -> bool {
-    if io::write_all(STDOUT_FILENO, answers) {
+fn written(rt: &HostRuntime, answers: &[u8]) -> bool {
+    if write_all(&mut rt.stdout(), answers) {
         return true;
     }
-    say(b"probe: cannot write\n");
+    say(rt, b"probe: cannot write\n");
     false
 }
+
+// The items of a round go into one buffer, and their answers into another of this size.
+const BUFFER_SIZE: usize = 65536;
 
 // How many items a round takes: of any size they and their answers fit into the buffers.
 const MOST: usize = 128;
 
 // Reads `end` bytes, or what is left, and says how many came. A read that fails counts as the end.
-fn fill(buf: &mut [u8], end: usize) -> usize
+fn fill(rt: &HostRuntime, buf: &mut [u8], end: usize) -> usize
     requires { end ≤ length buf.old }
     ensures { result ≤ end }
 {
-    let came = io::read_full(STDIN_FILENO, &mut buf[..end]);
-    // never more: it is asked here since the promise of `read_full` leaves the slice's length open
-    if came < end { came } else { end }
+    read_full(&mut rt.stdin(), &mut buf[..end])
 }
 
 // Reads `most` items, or what is left, and answers the whole ones; says whether all came and could be answered.
-fn round(buf: &mut [u8], out: &mut [u8], job: Job, most: usize) -> bool
+fn round(rt: &HostRuntime, buf: &mut [u8], out: &mut [u8], job: Job, most: usize) -> bool
     requires buf_len { (length buf.old ≡ 65536) × (length out.old ≡ 65536) }
     requires small_item { SmallItem job.n job.m × (most ≤ 128) }
 {
     let size = 8 * job.n;
     let end = most * size;
-    let came = fill(buf, end);
+    let came = fill(rt, buf, end);
     let count = came / size;
     answer_items(buf, out, job, count);
     let full = count * (8 * job.m);
-    written(&out[..full]) && came == end
+    written(rt, &out[..full]) && came == end
 }
 
 // How many of the items that are left a round takes.
@@ -72,14 +74,14 @@ fn next(left: usize) -> usize
 }
 
 // Answers so many items, or as many as there are; says whether there may be a job behind them.
-fn serve(buf: &mut [u8], out: &mut [u8], job: Job, items: usize) -> bool
+fn serve(rt: &HostRuntime, buf: &mut [u8], out: &mut [u8], job: Job, items: usize) -> bool
     requires buf_len { (length buf.old ≡ 65536) × (length out.old ≡ 65536) }
     requires small_item { SmallItem job.n job.m }
 {
     let mut left = items;
     while left > 0 {
         let most = next(left);
-        if !round(buf, out, job, most) {
+        if !round(rt, buf, out, job, most) {
             return false;
         }
         left -= most;
@@ -97,11 +99,11 @@ fn items_of(count: u64) -> usize {
 }
 
 // Reads a header and answers its items; says whether another header may follow.
-fn answer_job(buf: &mut [u8], out: &mut [u8]) -> bool
+fn answer_job(rt: &HostRuntime, buf: &mut [u8], out: &mut [u8]) -> bool
     requires { (length buf.old ≡ 65536) × (length out.old ≡ 65536) }
 {
     let mut head = [0u8; 8];
-    let came = io::read_full(STDIN_FILENO, &mut head);
+    let came = read_full(&mut rt.stdin(), &mut head);
     if came == 0 {
         return false;
     }
@@ -111,19 +113,19 @@ fn answer_job(buf: &mut [u8], out: &mut [u8]) -> bool
     // the zero is tested with it
     let m = (h / 65536 % 65536) as usize;
     if came != 8 || !known(op) || n < 1 || 40 < n || m < 1 || 64 < m {
-        say(b"probe: bad header\n");
+        say(rt, b"probe: bad header\n");
         return false;
     }
-    serve(buf, out, Job { op, n, m }, items_of(h / 4294967296))
+    serve(rt, buf, out, Job { op, n, m }, items_of(h / 4294967296))
 }
 
 // A proved loop has to end, and nothing says that the input does: the jobs count down from a number that no run uses up.
-fn main() {
-    let mut buf = io::large_buffer();
-    let mut out = io::large_buffer();
+fn main(rt: HostRuntime) {
+    let mut buf = [0u8; BUFFER_SIZE];
+    let mut out = [0u8; BUFFER_SIZE];
     let mut jobs = u64::MAX;
     while jobs > 0 {
-        if !answer_job(&mut buf, &mut out) {
+        if !answer_job(&rt, &mut buf, &mut out) {
             return;
         }
         jobs -= 1;
