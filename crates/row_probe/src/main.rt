@@ -7,40 +7,44 @@
 
 mod found;
 mod job;
+mod streams;
 
 ghost use Rattle.std.specs.Prelude.{◌≤◌};
 ghost use Rattle.row.specs.Row.{room_places};
 ghost use Rattle.row_probe.specs.Buffers.{Large};
 
 use crate::job::{JOB_ANSWER_SIZE, answer};
-use libc::{STDERR_FILENO, STDIN_FILENO, STDOUT_FILENO};
+use crate::streams::{read_full, write_all};
 use row::bytes::MAT_SIZE;
 use row::rows::ROOM;
 
-fn say(text: &[u8]) {
-    io::write_all(STDERR_FILENO, text);
+fn say(rt: &HostRuntime, text: &[u8]) {
+    write_all(&mut rt.stderr(), text);
 }
 
 // Whether the answer could be written.
-fn written(answer: &[u8]) -> bool {
-    if io::write_all(STDOUT_FILENO, answer) {
+fn written(rt: &HostRuntime, answer: &[u8]) -> bool {
+    if write_all(&mut rt.stdout(), answer) {
         return true;
     }
-    say(b"row_probe: cannot write\n");
+    say(rt, b"row_probe: cannot write\n");
     false
 }
 
+// 65 matrices go into one buffer, and the answer to a job into another of this size.
+const BUFFER_SIZE: usize = 65536;
+
 // Reads n matrices and answers their job; says whether all came and could be answered. A read that fails counts as the end.
-fn serve(buf: &mut [u8], out: &mut [u8], n: usize, m: usize) -> bool
+fn serve(rt: &HostRuntime, buf: &mut [u8], out: &mut [u8], n: usize, m: usize) -> bool
     requires { Large buf.old × Large out.old × (n ≤ room_places) }
 {
     let end = MAT_SIZE * n;
-    let came = io::read_full(STDIN_FILENO, &mut buf[..end]);
+    let came = read_full(&mut rt.stdin(), &mut buf[..end]);
     if came != end {
         return false;
     }
     answer(buf, out, n, m);
-    written(&out[..JOB_ANSWER_SIZE])
+    written(rt, &out[..JOB_ANSWER_SIZE])
 }
 
 // Of a byte that stands in an array the proof does not know that it is below 256; of one that is passed it does.
@@ -49,30 +53,30 @@ fn wide(x: u8) -> usize {
 }
 
 // Reads a header and answers its job; says whether another header may follow.
-fn answer_job(buf: &mut [u8], out: &mut [u8]) -> bool
+fn answer_job(rt: &HostRuntime, buf: &mut [u8], out: &mut [u8]) -> bool
     requires { Large buf.old × Large out.old }
 {
     let mut head = [0u8; 2];
-    let came = io::read_full(STDIN_FILENO, &mut head);
+    let came = read_full(&mut rt.stdin(), &mut head);
     if came != 2 {
         return false;
     }
     let n = wide(head[0]);
     let m = wide(head[1]);
     if ROOM < n || ROOM < m {
-        say(b"row_probe: bad header\n");
+        say(rt, b"row_probe: bad header\n");
         return false;
     }
-    serve(buf, out, n, m)
+    serve(rt, buf, out, n, m)
 }
 
 // A proved loop has to end, and nothing says that the input does: the jobs count down from a number that no run uses up.
-fn main() {
-    let mut buf = io::large_buffer();
-    let mut out = io::large_buffer();
+fn main(rt: HostRuntime) {
+    let mut buf = [0u8; BUFFER_SIZE];
+    let mut out = [0u8; BUFFER_SIZE];
     let mut jobs = u64::MAX;
     while jobs > 0 {
-        if !answer_job(&mut buf, &mut out) {
+        if !answer_job(&rt, &mut buf, &mut out) {
             return;
         }
         jobs -= 1;

@@ -1,0 +1,9 @@
+-- No more bytes are taken than there are. The measure is the bytes left.
+use Rattle.std.specs.Prelude.{◌-◌, ◌≤◌, length}
+use Rattle.row_probe.proofs.streams.write_all.Given as goal
+
+abbrev pub invariant-loop-done : goal.invariant-loop-done
+invariant-loop-done o l = l.done ≤ length l.bytes
+
+abbrev pub decreases-loop-done : goal.decreases-loop-done
+decreases-loop-done o l = length l.bytes - l.done
