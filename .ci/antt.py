@@ -82,8 +82,9 @@ OPENS, CLOSES = ('(', '{'), (')', '}')
 
 
 def brought(line):
-    """What `use P`, `use P as N` or `use P.{x, y as z}` brings, as (whole path, name in this file)."""
-    m = re.fullmatch(r'use (\S+)(?: as (\S+)| \. { ([^{}]*) })?', line)
+    """What `use P`, `use P as N` or `use P.{x, y as z}` brings, as (whole path, name in this file): of `use P.*` the name is *."""
+    # `«x»` and `x` are one name.
+    m = re.fullmatch(r'use (\S+)(?: as (\S+)| \. { ([^{}]*) })?', re.sub('[«»]', '', line))
     if not m:
         return []
     path, alias, inside = m.groups()
@@ -148,11 +149,11 @@ class Proofs:
     def unclear(self):
         """Why a statement in this file may not mean what it says. Where there is nothing but `use` lines and
         theorems, only a `use` line can give a name another meaning: a library's too, and a word's, which
-        an operator with that word in it (`OneAnswer_`) takes away."""
+        an operator with that word in it (`OneAnswer◌`) takes away. `use P.*` can give one to any."""
         names = [name for _, name in self.brings] + self.children
         for name in names:
-            operator = '_' in name and any(c.isalnum() for c in name)
-            if names.count(name) > 1 or operator or name in ('tt', '*') or name.startswith('Rattle·'):
+            operator = '◌' in name and any(c.isalnum() for c in name)
+            if names.count(name) > 1 or operator or name in ('tt', '*', 'Rattle'):
                 return f'{name} stands for two things'
         return self.other and f'holds more than theorems on promises: {self.other}'
 
