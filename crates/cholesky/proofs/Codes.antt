@@ -80,11 +80,13 @@ module _ (f : Format) (l a : List Float) where
   factor3_pivot = factor_pivot (steps3_stops f l a) a
 
 module _ (f : Format) (a b : List Float) where
-  pub solved2_code : let l = (steps2_of f (zeros f 3) a).factor in (factor_and_solve2_of f a b).code ≡ code_of f (a ++ b) (pivots2_of f a) (l ++ solution2_of f l b)
+  pub solved2_code : let l = (steps2_of f (zeros f 3) a).factor in (factor_and_solve2_of f a b).code
+      ≡ code_of f (a ++ b) (pivots2_of f a) (l ++ solution2_of f l b)
   unfolding factor_and_solve2_of
   solved2_code = solved_code (steps2_stops f (zeros f 3) a) a 2 b (solution2_of f (steps2_of f (zeros f 3) a).factor b)
 
-  pub solved3_code : let l = (steps3_of f (zeros f 6) a).factor in (factor_and_solve3_of f a b).code ≡ code_of f (a ++ b) (pivots3_of f a) (l ++ solution3_of f l b)
+  pub solved3_code : let l = (steps3_of f (zeros f 6) a).factor in (factor_and_solve3_of f a b).code
+      ≡ code_of f (a ++ b) (pivots3_of f a) (l ++ solution3_of f l b)
   unfolding factor_and_solve3_of
   solved3_code = solved_code (steps3_stops f (zeros f 6) a) a 3 b (solution3_of f (steps3_of f (zeros f 6) a).factor b)
 

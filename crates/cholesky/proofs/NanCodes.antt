@@ -59,7 +59,8 @@ module _ (f : Format) (l a : List Float) where
 
 module _ (f : Format) (a b : List Float) where
   pub solved2-given : Fit f 3 a → length a ≡ 3 → (factor_and_solve2_of f a b).code
-      ≡ pick (all_finite (a ++ b)) (pick (one_at_most_zero f (pivots2_of f a)) 6 (pick (all_finite (solution2_of f (steps2_of f (zeros f 3) a).factor b)) 0 7)) 5
+      ≡ pick (all_finite (a ++ b))
+      (pick (one_at_most_zero f (pivots2_of f a)) 6 (pick (all_finite (solution2_of f (steps2_of f (zeros f 3) a).factor b)) 0 7)) 5
   solved2-given fit size =
       let l = (steps2_of f (zeros f 3) a).factor in
       solved2_code f a b
@@ -97,7 +98,8 @@ factor2_not_nine f l a fit size e =
 pub solved2_not_nine : (f : Format) (a b : List Float) → Fit f 3 a → length a ≡ 3 → (factor_and_solve2_of f a b).code ≡ 9 → ⊥
 solved2_not_nine f a b fit size e =
     let x = all_finite (solution2_of f (steps2_of f (zeros f 3) a).factor b) in
-    false≢true (nine_tests (all_finite (a ++ b)) (one_at_most_zero f (pivots2_of f a)) false (pick x 0 7) (not_nine x) (sym (solved2-given f a b fit size) ∙ e)).2
+    false≢true (nine_tests (all_finite (a ++ b)) (one_at_most_zero f (pivots2_of f a)) false (pick x 0 7) (not_nine x)
+    (sym (solved2-given f a b fit size) ∙ e)).2
 
 -- ---- and of the 3x3 exactly by its third pivot
 

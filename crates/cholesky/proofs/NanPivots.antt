@@ -139,66 +139,68 @@ numbers : (n : ℕ) (a : List Float) → length a ≡ n → all_finite a ≡ tru
 numbers n a e h i l = at-finite a h i (omega arith)
 
 -- of the 2x2: none is NaN, and the factor is finite
-module _ (f : Format) (a : List Float) (fit : Fit f 3 a) (size : length a ≡ 3) (fin : all_finite a ≡ true) (low : one_at_most_zero f (pivots2_of f a) ≡ false) where
-  none_low2 : (le (at a 0) (zero_f f) ≡ false) × (le (second_of f a) (zero_f f) ≡ false)
-  unfolding one
-  none_low2 = two_false (le (at a 0) (zero_f f)) (le (second_of f a) (zero_f f)) low
+module _ (f : Format) (a : List Float) (fit : Fit f 3 a) (size : length a ≡ 3) (fin : all_finite a ≡ true) (low : one_at_most_zero f (pivots2_of f a) ≡ false)
+  where
+    none_low2 : (le (at a 0) (zero_f f) ≡ false) × (le (second_of f a) (zero_f f) ≡ false)
+    unfolding one
+    none_low2 = two_false (le (at a 0) (zero_f f)) (le (second_of f a) (zero_f f)) low
 
-  each_number2 : (is_nan (at a 0) ≡ false) × (is_nan (second_of f a) ≡ false)
-  each_number2 = let h = numbers 3 a size fin in (finite_no_nan (at a 0) (h 0 (omega arith)), second_number f a fit h none_low2.0)
+    each_number2 : (is_nan (at a 0) ≡ false) × (is_nan (second_of f a) ≡ false)
+    each_number2 = let h = numbers 3 a size fin in (finite_no_nan (at a 0) (h 0 (omega arith)), second_number f a fit h none_low2.0)
 
-  pub no_nan2 : one_nan (pivots2_of f a) ≡ false
-  unfolding one
-  no_nan2 = rw (each_number2.0, each_number2.1)
+    pub no_nan2 : one_nan (pivots2_of f a) ≡ false
+    unfolding one
+    no_nan2 = rw (each_number2.0, each_number2.1)
 
-  pub whole2_finite : (l : List Float) → all_finite (steps2_of f l a).factor ≡ true
-  unfolding steps2_of pivot_of all_finite
-  whole2_finite l =
-      let h = numbers 3 a size fin in
-      let p = none_low2 in
-      rw (p.0, each_number2.0, p.1, each_number2.1)
-      (rw (
-        positive_is_finite (l11_of f a) (l11_positive f a fit h p.0),
-        l21_finite f a fit h p.0 p.1,
-        positive_is_finite (l22_of f a) (l22_positive f a fit h p.0 p.1),
-      ))
+    pub whole2_finite : (l : List Float) → all_finite (steps2_of f l a).factor ≡ true
+    unfolding steps2_of pivot_of all_finite
+    whole2_finite l =
+        let h = numbers 3 a size fin in
+        let p = none_low2 in
+        rw (p.0, each_number2.0, p.1, each_number2.1)
+        (rw (
+          positive_is_finite (l11_of f a) (l11_positive f a fit h p.0),
+          l21_finite f a fit h p.0 p.1,
+          positive_is_finite (l22_of f a) (l22_positive f a fit h p.0 p.1),
+        ))
 
 -- of the 3x3: the third alone can be NaN, and if it is not, the factor is finite
-module _ (f : Format) (a : List Float) (fit : Fit f 6 a) (size : length a ≡ 6) (fin : all_finite a ≡ true) (low : one_at_most_zero f (pivots3_of f a) ≡ false) where
-  none_low3 : (le (at a 0) (zero_f f) ≡ false) × (le (second_of f a) (zero_f f) ≡ false) × (le (third_of f a) (zero_f f) ≡ false)
-  unfolding one
-  none_low3 = three_false (le (at a 0) (zero_f f)) (le (second_of f a) (zero_f f)) (le (third_of f a) (zero_f f)) low
+module _ (f : Format) (a : List Float) (fit : Fit f 6 a) (size : length a ≡ 6) (fin : all_finite a ≡ true) (low : one_at_most_zero f (pivots3_of f a) ≡ false)
+  where
+    none_low3 : (le (at a 0) (zero_f f) ≡ false) × (le (second_of f a) (zero_f f) ≡ false) × (le (third_of f a) (zero_f f) ≡ false)
+    unfolding one
+    none_low3 = three_false (le (at a 0) (zero_f f)) (le (second_of f a) (zero_f f)) (le (third_of f a) (zero_f f)) low
 
-  each_number3 : (is_nan (at a 0) ≡ false) × (is_nan (second_of f a) ≡ false)
-  each_number3 =
-      let h = numbers 6 a size fin in
-      (finite_no_nan (at a 0) (h 0 (omega arith)), second_number f a (λ i l. fit i (omega arith)) (λ i l. h i (omega arith)) none_low3.0)
+    each_number3 : (is_nan (at a 0) ≡ false) × (is_nan (second_of f a) ≡ false)
+    each_number3 =
+        let h = numbers 6 a size fin in
+        (finite_no_nan (at a 0) (h 0 (omega arith)), second_number f a (λ i l. fit i (omega arith)) (λ i l. h i (omega arith)) none_low3.0)
 
-  third_alone : one_nan (pivots3_of f a) ≡ is_nan (third_of f a)
-  unfolding one
-  third_alone = rw (each_number3.0, each_number3.1) (last_one (is_nan (third_of f a)))
+    third_alone : one_nan (pivots3_of f a) ≡ is_nan (third_of f a)
+    unfolding one
+    third_alone = rw (each_number3.0, each_number3.1) (last_one (is_nan (third_of f a)))
 
-  pub nan3 : one_nan (pivots3_of f a) ≡ eq (l21_of f a) (zero_f f) && infinite (l31_of f a)
-  nan3 = third_alone ∙ third_nan f a fit (numbers 6 a size fin) none_low3.0 none_low3.1
+    pub nan3 : one_nan (pivots3_of f a) ≡ eq (l21_of f a) (zero_f f) && infinite (l31_of f a)
+    nan3 = third_alone ∙ third_nan f a fit (numbers 6 a size fin) none_low3.0 none_low3.1
 
-  pub whole3_finite : one_nan (pivots3_of f a) ≡ false → (l : List Float) → all_finite (steps3_of f l a).factor ≡ true
-  unfolding steps3_of pivot_of all_finite
-  whole3_finite none l =
-      let h = numbers 6 a size fin in
-      let t = fit3 f a fit h none_low3.0 none_low3.1 in
-      let j = fin3 f a fit h none_low3.0 none_low3.1 in
-      let p = none_low3 in
-      let n : is_nan (third_of f a) ≡ false = sym third_alone ∙ none in
-      rw (p.0, each_number3.0, p.1, each_number3.1)
-      (rw (p.2, n)
-      (rw (
-        positive_is_finite (l11_of f a) (l11_positive f a t j p.0),
-        l21_finite f a t j p.0 p.1,
-        positive_is_finite (l22_of f a) (l22_positive f a t j p.0 p.1),
-        l31_finite f a fit h p.0 p.1 p.2 n,
-        l32_finite f a fit h p.0 p.1 p.2 n,
-        positive_is_finite (root_of f (third_of f a)) (l33_positive f a fit h p.0 p.1 p.2 n),
-      )))
+    pub whole3_finite : one_nan (pivots3_of f a) ≡ false → (l : List Float) → all_finite (steps3_of f l a).factor ≡ true
+    unfolding steps3_of pivot_of all_finite
+    whole3_finite none l =
+        let h = numbers 6 a size fin in
+        let t = fit3 f a fit h none_low3.0 none_low3.1 in
+        let j = fin3 f a fit h none_low3.0 none_low3.1 in
+        let p = none_low3 in
+        let n : is_nan (third_of f a) ≡ false = sym third_alone ∙ none in
+        rw (p.0, each_number3.0, p.1, each_number3.1)
+        (rw (p.2, n)
+        (rw (
+          positive_is_finite (l11_of f a) (l11_positive f a t j p.0),
+          l21_finite f a t j p.0 p.1,
+          positive_is_finite (l22_of f a) (l22_positive f a t j p.0 p.1),
+          l31_finite f a fit h p.0 p.1 p.2 n,
+          l32_finite f a fit h p.0 p.1 p.2 n,
+          positive_is_finite (root_of f (third_of f a)) (l33_positive f a fit h p.0 p.1 p.2 n),
+        )))
 
 -- ---- a third pivot that is NaN
 

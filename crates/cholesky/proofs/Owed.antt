@@ -69,7 +69,8 @@ module _ {f : Format} {l : List Float} {pivots : List Float} {r : FactorAnswer} 
       (λ _ e. (known.full sized, e, tt))
 
   solved_owed : (b x : List Float) → length x ≡ n
-      → Owed (λ (q : SolvedAnswer). q.code) (refused_solved f n (factor_and_solve_of f n a b r x).pivot) (solved_parts n) (a ++ b) (factor_and_solve_of f n a b r x)
+      → Owed (λ (q : SolvedAnswer). q.code) (refused_solved f n (factor_and_solve_of f n a b r x).pivot) (solved_parts n)
+      (a ++ b) (factor_and_solve_of f n a b r x)
   solved_owed b x e =
       owed_over known (λ (q : SolvedAnswer). q.code) (refused_solved f n 0) (λ k. refl) (a ++ b) (r.factor ++ x) (with_solution f n r x)
       (λ (q : SolvedAnswer). refused_solved f n q.pivot) (solved_parts n) (same_code f n r x) refl refl

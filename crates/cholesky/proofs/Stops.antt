@@ -10,7 +10,8 @@ use Rattle.float.proofs.Invalid.{nan_root, nan_divisor, nan_square, nan_taken_of
 use Rattle.matrix.specs.Places.{at}
 use Rattle.cholesky.specs.Pivot.{pivot_of, with_root_of, without_root}
 use Rattle.cholesky.specs.Factor.{FactorAnswer, with_root, plain, second2_of, row_three_of, second3_of, steps2_of, steps3_of}
-use Rattle.cholesky.specs.Pivots.{l11_of, l21_of, second_of, l22_of, l31_of, l32_of, third_of, pivots2_of, pivots3_of, one, one_at_most_zero, one_nan, refused_pivot}
+use Rattle.cholesky.specs.Pivots.{l11_of, l21_of, second_of, l22_of, l31_of, l32_of, third_of, pivots2_of, pivots3_of, one, one_at_most_zero, one_nan}
+use Rattle.cholesky.specs.Pivots.{refused_pivot}
 use Rattle.cholesky.specs.Pivots.{Stopped, Stops}
 
 -- ---- after a NaN: its root, the quotient by it, the square of that and what it is taken off are NaN

@@ -59,7 +59,8 @@ sum_empty xs n h =
 
 -- ---- a file cut behind whole records
 
-pub sum_of_parts : (f : Format) (a b : List ℕ) (m : ℕ) → length a ≡ answer_size f * m → sum_of (tally_of f a) (tally_of f b) ≡ sum_of empty_tally (tally_of f (a ++ b))
+pub sum_of_parts : (f : Format) (a b : List ℕ) (m : ℕ) → length a ≡ answer_size f * m → sum_of (tally_of f a) (tally_of f b)
+    ≡ sum_of empty_tally (tally_of f (a ++ b))
 sum_of_parts f a b m h =
     let t = tally_of f (a ++ b) in
     let z : plus_of empty_tally t ≡ t = plus_comm empty_tally t ∙ plus_zeros t tally_size (tally_length f (a ++ b)) in

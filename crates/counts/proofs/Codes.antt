@@ -5,7 +5,8 @@ use Rattle.float.proofs.Choice.{so_or_not, whether}
 use Rattle.matrix.specs.Rows.{Row, on, Gives, WrongLength}
 use Rattle.record.specs.Layout.{answer_size}
 use Rattle.counts.specs.Cells.{tally_size}
-use Rattle.counts.specs.Tally.{Tally, plus_of, all_fit, tally_of, empty_tally, sum_of, room_for, sized, cleared_of, with_record, with_file, tallied_of, with_tally}
+use Rattle.counts.specs.Tally.{Tally, plus_of, all_fit, tally_of, empty_tally, sum_of, room_for, sized, cleared_of, with_record, with_file, tallied_of}
+use Rattle.counts.specs.Tally.{with_tally}
 use Rattle.counts.specs.Refused.{TooLarge, clear_rows, record_rows, file_rows, add_rows}
 use Rattle.counts.proofs.Sums.{sum_fits_each, each_of_sum}
 use Rattle.counts.proofs.Added.{tally_fits}

@@ -11,7 +11,8 @@ use Rattle.jacobi.specs.Blind.{Watched, sighted}
 use Rattle.jacobi.proofs.Run.{keeps}
 use Rattle.jacobi.proofs.Placed.{values_alone}
 use Rattle.eigen.specs.Eigen3x3.{State, settled_of, step_of, run_of, start_of, last_of, watched_of, diagonal, ranked_of, answer_of, end_of}
-use Rattle.eigen.specs.EigVals.{BareState, bare_step_of, bare_run_of, bare_watched_of, alone, nothing_swapped, sort3_of, refused_values, bare_end_of, eigvals_of}
+use Rattle.eigen.specs.EigVals.{BareState, bare_step_of, bare_run_of, bare_watched_of, alone, nothing_swapped, sort3_of, refused_values, bare_end_of}
+use Rattle.eigen.specs.EigVals.{eigvals_of}
 use Rattle.eigen.specs.Ordered.{diagonal_axes}
 use Rattle.eigen.specs.Bare.{without_vectors, VectorsLost, SameButVectors}
 use Rattle.eigen.specs.declared.eigen3x3.Eigen3.{Eigen3}

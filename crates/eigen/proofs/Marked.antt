@@ -15,7 +15,8 @@ use Rattle.jacobi.specs.declared.pairs.Pair.TheVariants.{P12, P13, P23}
 use Rattle.jacobi.proofs.Watched.{tiny_if_blind}
 use Rattle.eigen.specs.Pairs.{app, aqq, pair_of, blind_at}
 use Rattle.eigen.specs.Eigen3x3.{last_of, watched_last_of, numbers_of, refused_eigen, answer_of, end_of, eigen_of}
-use Rattle.eigen.specs.EigVals.{bare_last_of, bare_watched_last_of, refused_values, values_of, bare_end_of, eigvals_of, refused_values2, values2_of, values_end2_of}
+use Rattle.eigen.specs.EigVals.{bare_last_of, bare_watched_last_of, refused_values, values_of, bare_end_of, eigvals_of, refused_values2, values2_of}
+use Rattle.eigen.specs.EigVals.{values_end2_of}
 use Rattle.eigen.specs.EigVals.{eigvals2_of}
 use Rattle.eigen.specs.Eigen2x2.{blind2_of, solved2, refused2, numbers2_of, answer2_of, end2_of, eigen2_of}
 use Rattle.eigen.specs.Counted.{state_after, NoneBlindIn}

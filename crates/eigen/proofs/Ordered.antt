@@ -62,7 +62,8 @@ module _ (f : Format) (a : List Float) where
         values = sorts3 upward nothing_swapped (alone (diagonal x)) (diagonal-finite x (bare-filled f a n) d.numbers);
       })
 
-  pub in_order2 : (eigen2_of f a).code ≡ 0 → InOrder 2 (rotation_axes f a) (record { values = (eigen2_of f a).values; carried = (eigen2_of f a).vectors.«data» })
+  pub in_order2 : (eigen2_of f a).code ≡ 0
+      → InOrder 2 (rotation_axes f a) (record { values = (eigen2_of f a).values; carried = (eigen2_of f a).vectors.«data» })
   in_order2 e =
       let x = solved2 f a in
       let d = answered2 f a e in

@@ -4,7 +4,8 @@ use Rattle.jacobi.specs.Blind.{Watched, sighted}
 use Rattle.jacobi.proofs.Watched.{watched_apart}
 use Rattle.eigen.specs.Pairs.{blind_at}
 use Rattle.eigen.specs.Eigen3x3.{State, settled_of, step_of, run_of, start_of, last_of, watched_of, watched_last_of, end_of, eigen_of}
-use Rattle.eigen.specs.EigVals.{BareState, bare_step_of, bare_run_of, bare_start_of, bare_last_of, bare_watched_of, bare_watched_last_of, bare_end_of, eigvals_of}
+use Rattle.eigen.specs.EigVals.{BareState, bare_step_of, bare_run_of, bare_start_of, bare_last_of, bare_watched_of, bare_watched_last_of, bare_end_of}
+use Rattle.eigen.specs.EigVals.{eigvals_of}
 
 module _ (f : Format) (a : List Float) where
   -- the last state, and whether a rotation was blind

@@ -10,7 +10,8 @@ use Rattle.float.proofs.Units.{InUnits, in_units_lem, units_lt, units_of, same_u
 
 -- in units it is below the first power of two that the format does not hold
 room : (f : Format) (m : ℕ) (e : ℤ) → T (fits f (fin false m e)) → in_units f m e < 2 ^ (low f + suc (emax f))
-room f zero e t = lt_of_le_of_lt (le_of_eq ((in_units_lem f false zero e t).is ∙ zero-mul (2 ^ (in_units_lem f false zero e t).j))) (pow_pos (low f + suc (emax f)))
+room f zero e t =
+    let z = in_units_lem f false zero e t in lt_of_le_of_lt (le_of_eq (z.is ∙ zero-mul (2 ^ z.j))) (pow_pos (low f + suc (emax f)))
 room f (suc m) e t = rw (add_comm (low f) (suc (emax f))) (units_lt f false m e t)
 
 module _ (f : Format) (m : ℕ) (e : ℤ) (t : T (fits f (fin false m e))) where

@@ -17,8 +17,10 @@ pub use native.Mathlib.Nat.{add-mul-mod_self_right, div-le_of_le-mul, pow-zero, 
 pub use native.Mathlib.Nat.{le-div_iff_mul-le, mul-mod_left, min-eq_left, min-eq_right, min-le_right, zero-min}
 pub use native.Mathlib.Omega.{arith}
 pub use native.Mathlib.Numerals.{add-one}
-pub use lib.Dec.{eqb, T, leb, ltb, leb→le, nleb→lt, ltb→lt, nltb→le, lit≤, le→leb, eqb→eq, lt→ltb, lit<, eqb-suc-zero as eqb·suc-zero, eqb-zero-suc as eqb·zero-suc, is_le, compare_is_eq}
-pub use lib.ListN.{length, get_or, take, drop, set, length-drop, length-take, length-set, length-append, replicate, replicate-append-replicate, take-append-drop}
+pub use lib.Dec.{eqb, T, leb, ltb, leb→le, nleb→lt, ltb→lt, nltb→le, lit≤, le→leb, eqb→eq, lt→ltb, lit<, eqb-suc-zero as eqb·suc-zero}
+pub use lib.Dec.{eqb-zero-suc as eqb·zero-suc, is_le, compare_is_eq}
+pub use lib.ListN.{length, get_or, take, drop, set, length-drop, length-take, length-set, length-append, replicate, replicate-append-replicate}
+pub use lib.ListN.{take-append-drop}
 pub use lib.Seq.{take-suc, take-suc-set, get_or-drop, get_or-take, drop-drop, drop-set-lt, take_all, take-length, drop-cons, drop-length, sets, sets-eq}
 pub use lib.Seq.{take-append_seam, drop-append-add, take-append-add, length-take-le, get_or-append-add, take_at, drop_at}
 pub use lib.IntN.{pos, ℤ, negsuc, neg_ℤ, sub_ℕ, ◌+ℤ◌, ◌-ℤ◌, nat_abs}

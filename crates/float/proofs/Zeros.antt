@@ -63,7 +63,8 @@ not_below_lem m e n d p h =
     lt→ltb 0 n (first_pos n (up d) (first_pos (n * up d) (down e) (lt_of_lt_of_le (mul-pos (mul-pos (ltb→lt 0 m p) (up_pos e)) (down_pos d)) l))) in
     (q, cross→le (fin false m e) (fin false n d) p q l)
 
-not_below_epsilon : (f : Format) (n : ℕ) (d : ℤ) → lt (fin false n d) (epsilon_f f) ≡ false → T (positive (fin false n d)) × T (le (epsilon_f f) (fin false n d))
+not_below_epsilon : (f : Format) (n : ℕ) (d : ℤ) → lt (fin false n d) (epsilon_f f) ≡ false → T (positive (fin false n d))
+    × T (le (epsilon_f f) (fin false n d))
 unfolding of_bits
 not_below_epsilon binary32 n d h = not_below_lem 1 (negsuc 22) n d tt h
 not_below_epsilon binary64 n d h = not_below_lem 1 (negsuc 51) n d tt h

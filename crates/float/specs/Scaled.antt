@@ -1,5 +1,6 @@
 -- A number times a power of two, and the power of two that a matrix is divided by. Definitions only.
-use Rattle.std.specs.Prelude.{◌≡◌, ℕ, zero, suc, ◌-◌, ◌*◌, ◌%◌, min, Bool, ◌&&◌, ◌||◌, T, List, [], ◌∷◌, ℤ, pos, negsuc, ◌+ℤ◌, int_le, is_nan, nat_lt, slice_index_or, to_bits, Float}
+use Rattle.std.specs.Prelude.{◌≡◌, ℕ, zero, suc, ◌-◌, ◌*◌, ◌%◌, min, Bool, ◌&&◌, ◌||◌, T, List, [], ◌∷◌, ℤ, pos, negsuc, ◌+ℤ◌, int_le, is_nan, nat_lt}
+use Rattle.std.specs.Prelude.{slice_index_or, to_bits, Float}
 use Rattle.std.specs.Float.{nan, inf, fin, Format}
 use Rattle.std.specs.Float.Ieee.{emax, low, up, down, size, round, eq, lt, le, top}
 use Rattle.float.specs.Choice.{pick}

@@ -84,5 +84,6 @@ module _ (f : Format) {b : Bool} {p p' a a' q q' : Float} (P : Rel b p p') (A : 
   pub rotation_same : rotation_of f p a q ≡ rotation_of f p' a' q'
   unfolding rotation_of
   rotation_same =
-      by_tests (no_turn f) (even_turn f) (turn_by f (tangent_of f (theta_of f p a q))) (turn_by f (tangent_of f (theta_of f p' a' q'))) gone_same tiny-same level_same
+      by_tests (no_turn f) (even_turn f) (turn_by f (tangent_of f (theta_of f p a q)))
+      (turn_by f (tangent_of f (theta_of f p' a' q'))) gone_same tiny-same level_same
       (λ t u v. ap (λ (z : Float). turn_by f (tangent_of f z)) (theta_same t u v))

@@ -91,7 +91,8 @@ module _ (f : Format) (a : Asked) where
   within = divided f (power_for f a) a
 
   -- what holds of a kernel's answer and is kept by multiplying back holds of both
-  pub by_way : (P : Worked → Type 0) → (is_scaled a ≡ true → P (multiplied_back f (power_for f a) (plain_of f within))) → (is_scaled a ≡ false → P (plain_of f a))
+  pub by_way : (P : Worked → Type 0) → (is_scaled a ≡ true → P (multiplied_back f (power_for f a) (plain_of f within)))
+      → (is_scaled a ≡ false → P (plain_of f a))
       → P (work_of f a)
   by_way P = by_test P (is_scaled a) (multiplied_back f (power_for f a) (plain_of f within)) (plain_of f a)
 

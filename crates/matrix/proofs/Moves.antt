@@ -114,7 +114,8 @@ exchange_symmetric n i j xs =
     (λ m o. by_column (λ (d : ℕ). c ≡ d) j i c (λ q. absurd (o q)) (λ p q. absurd (m q)) (λ p q. refl))))
 
 -- the two columns by their order
-pub exchange_ordered : (n i j a b : ℕ) (xs : List Float) → (i < j → (i ≡ a) × (j ≡ b)) → (j ≤ i → (i ≡ b) × (j ≡ a)) → exchange_of n a b xs ≡ exchange_of n i j xs
+pub exchange_ordered : (n i j a b : ℕ) (xs : List Float) → (i < j → (i ≡ a) × (j ≡ b)) → (j ≤ i → (i ≡ b) × (j ≡ a)) → exchange_of n a b xs
+    ≡ exchange_of n i j xs
 exchange_ordered n i j a b xs rising falling =
     either i j (λ l. let p = rising l in cc (p.0, p.1)) (λ l. let p = falling l in cc (p.0, p.1, exchange_symmetric n b a xs))
 

@@ -44,7 +44,8 @@ module _ (f : Format) (s a : List ℕ) where
   later_code_lem : known_kind (kind_of s) ≡ true → used_finite (asked_of f s) ≡ true → (work_of f (asked_of f s)).code ≡ later
   later_code_lem = rw (pivots_in_lem f s, made_in_lem f s) (kind_code f (asked_of f s))
 
-  pub judged_code : (judged_of f s).code ≡ pick (not (known_kind (kind_of s))) 3 (pick (not (rest_right f s)) 4 (pick (not (used_finite (asked_of f s))) 5 later))
+  pub judged_code : (judged_of f s).code
+      ≡ pick (not (known_kind (kind_of s))) 3 (pick (not (rest_right f s)) 4 (pick (not (used_finite (asked_of f s))) 5 later))
   unfolding judged_of form_of
   judged_code = asked f (work_of f (asked_of f s)) later (known_kind (kind_of s)) (rest_right f s) (used_finite (asked_of f s)) later_code_lem
 

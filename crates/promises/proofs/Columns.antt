@@ -43,7 +43,8 @@ in_record f event kind w c e n h =
     ∙ numbers_take f (drop (3 * c) w.left) (number_bytes_of f w.right) 3 (omega (arith, n.1))
     ∙ ap (number_bytes_of f) (sym (column_taken w.left c n.1 h))
 
-column_bytes_lem : (f : Format) (s : List ℕ) (c : ℕ) → length s ≡ request_size f → c ≤ 2 → column_bytes f c s ≡ number_bytes_of f (column_of (judged_of f s).left c)
+column_bytes_lem : (f : Format) (s : List ℕ) (c : ℕ) → length s ≡ request_size f → c ≤ 2
+    → column_bytes f c s ≡ number_bytes_of f (column_of (judged_of f s).left c)
 column_bytes_lem f s c size h = in_record f (take event_bytes s) (kind_of s) (judged_of f s) c (length-take-le event_bytes s (omega arith)) (judged-sized f s) h
 
 pub bytes_exchanged : (f : Format) (s t : List ℕ) → length s ≡ request_size f → length t ≡ request_size f

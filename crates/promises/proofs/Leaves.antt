@@ -1,6 +1,7 @@
 -- What is left is the slice as it was, the answer to a request of the wrong size, or the answer to a request: each is looked at byte by byte.
 use Rattle.float.proofs.Words.{◌≡◌, refl, sym, ap, ◌∙◌, subst, not, List, [], ◌∷◌, ◌++◌, append_assoc, ℕ, zero, suc, ◌≤◌, arith, eqb, length}
-use Rattle.float.proofs.Words.{get_or, take, drop, replicate, length-append, take-append-drop, length-take-le, take-suc, take_at, drop-cons, get_or-drop, Format}
+use Rattle.float.proofs.Words.{get_or, take, drop, replicate, length-append, take-append-drop, length-take-le, take-suc, take_at, drop-cons, get_or-drop}
+use Rattle.float.proofs.Words.{Format}
 use contract.Lifetimes.{Lfts}
 use Rattle.float.specs.Width.{F}
 use Rattle.float.specs.Choice.{pick}
@@ -32,7 +33,8 @@ use Rattle.promises.proofs.Marks.{judged_mark, judged-marked}
 
 -- ---- the head of a record
 
-record_event : (f : Format) (s : List ℕ) (w : Worked) → length s ≡ request_size f → take code_at (record_of f (take event_bytes s) (kind_of s) w) ≡ take code_at s
+record_event : (f : Format) (s : List ℕ) (w : Worked) → length s ≡ request_size f → take code_at (record_of f (take event_bytes s) (kind_of s) w)
+    ≡ take code_at s
 unfolding record_of
 record_event f s w h =
     let rest = w.code ∷ w.count ∷ w.settled ∷ number_bytes_of f w.values ++ (number_bytes_of f w.left ++ number_bytes_of f w.right) in

@@ -64,7 +64,8 @@ work_owed f a =
     let Owed : Asked → Worked → Type 0 =
     λ (b : Asked) (w : Worked). w.code ≡ 0 → Exactly (w.settled ≡ 1) (MarkOwed f (kind_numbered a.kind).kernel b) in
     by_way f a (Owed (worked_on f a))
-    (λ e. rw e (by_back f (power_for f a) _ (Owed (divided f (power_for f a) a)) (λ _. plain_owed f (divided f (power_for f a) a)) (λ _ c. absurd (omega arith))))
+    (λ e. rw e (by_back f (power_for f a) _ (Owed (divided f (power_for f a) a)) (λ _. plain_owed f (divided f (power_for f a) a))
+    (λ _ c. absurd (omega arith))))
     (λ e. rw e (plain_owed f a))
 
 -- ---- a request of the right size

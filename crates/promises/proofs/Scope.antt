@@ -15,7 +15,8 @@ use Rattle.kinds.proofs.Rows.{nine_most, three_most}
 use Rattle.wire.specs.Bytes.{number_bytes, place_of, word_of, number_at, numbers_from}
 use Rattle.record.specs.Layout.{nine_at, three_at, request_size, answer_size}
 use Rattle.record.specs.Request.{kind_of, way_of, asked_of}
-use Rattle.promises.specs.Scope.{number_length, request_length, answer_length, three_begin, used_nine, used_three, last_way, kernel_numbered, little, numbers_in}
+use Rattle.promises.specs.Scope.{number_length, request_length, answer_length, three_begin, used_nine, used_three, last_way, kernel_numbered, little}
+use Rattle.promises.specs.Scope.{numbers_in}
 use Rattle.promises.specs.Scope.{kind_in, given, scaled_in, power_in, divided_in, worked_in}
 use Rattle.promises.specs.Conditions.{used_in, pivots_of, numbers_of, values_of, pivots_in, made_in}
 use Rattle.promises.proofs.Kernels.{made_of}
@@ -101,7 +102,8 @@ pub given_asked : (f : Format) (s : List ℕ) → given f s ≡ asked_of f s
 given_asked f s = rw (numbers_in_lem f nine_at 9 s, three_in f s)
 
 -- the numbers that the kind uses
-pub used_nine_lem : (f : Format) (s : List ℕ) → numbers_in f 8 (used_nine (kind_of s)) s ≡ first_of (kind_numbered (kind_of s)).nine (numbers_from f 9 nine_at s)
+pub used_nine_lem : (f : Format) (s : List ℕ) → numbers_in f 8 (used_nine (kind_of s)) s
+    ≡ first_of (kind_numbered (kind_of s)).nine (numbers_from f 9 nine_at s)
 used_nine_lem f s =
     let n = (kind_numbered (kind_of s)).nine in
     ap (λ (n : ℕ). numbers_in f 8 n s) (in_table (kind_of s)).0 ∙ numbers_in_lem f 8 n s ∙ sym (first_tabulate n 9 _ (nine_most (kind_of s)))

@@ -1,5 +1,6 @@
 -- What a code tells, in the scope's words, of any number that the rows give: a row that said less would not be enough. Each follows by going down the rows.
-use Rattle.float.proofs.Words.{◌≡◌, refl, sym, ◌∙◌, Bool, true, false, true≢false, false≢true, List, ◌⊎◌, ⊎_elim, ℕ, ◌≤◌, ◌<◌, arith, length, get_or, drop, Float}
+use Rattle.float.proofs.Words.{◌≡◌, refl, sym, ◌∙◌, Bool, true, false, true≢false, false≢true, List, ◌⊎◌, ⊎_elim, ℕ, ◌≤◌, ◌<◌, arith, length, get_or, drop}
+use Rattle.float.proofs.Words.{Float}
 use Rattle.float.proofs.Words.{Format, le, is_nan}
 use Rattle.float.specs.Constants.{zero_f}
 use Rattle.float.specs.Sign.{finite}

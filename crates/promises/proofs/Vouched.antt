@@ -17,7 +17,8 @@ use Rattle.eigen.specs.declared.eigen3x3.Eigen3.{Eigen3}
 use Rattle.svd.proofs.Owed.{svd2_owed, svd3_owed}
 use Rattle.svd.specs.declared.svd2x2.Svd2.{Svd2}
 use Rattle.svd.specs.declared.svd3x3.Svd3.{Svd3}
-use Rattle.kinds.specs.Work.{first_of, padded, refused_kind, from_eigen2, from_eigen3, from_svd2, from_svd3, from_factor, from_solved, used_finite, answered_by, plain_of}
+use Rattle.kinds.specs.Work.{first_of, padded, refused_kind, from_eigen2, from_eigen3, from_svd2, from_svd3, from_factor, from_solved, used_finite}
+use Rattle.kinds.specs.Work.{answered_by, plain_of}
 use Rattle.kinds.specs.Ways.{power_for, divided, work_of}
 use Rattle.kinds.specs.declared.table.Kind.{Kind}
 use Rattle.kinds.specs.declared.work.Asked.{Asked}

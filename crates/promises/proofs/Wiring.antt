@@ -220,7 +220,8 @@ eigen_reach f way x y p q e =
     let r = subst (λ (z : List Float). eigen2.SameCodeAndMark (eigen2_of f a) (eigen2_of f z)) (sym e) (eigen2x2.reversed2 f a refl) in
     let made : (k : ℤ) → all_finite (map (times_power f k) (eigen2_of f a).values) ≡ all_finite (map (times_power f k) (eigen2_of f (first_of 3 y)).values) =
     λ (k : ℤ). rw e (eigen2x2.made_reversed2 f a (times_power f k) (λ u v s. finite_rel (scaled_rel f k s)) refl) in
-    let pair : (k : ℤ) (b : List Float) → let v = (eigen2_of f b).values in all_finite (times_all f k 3 (padded f 3 2 v)) ≡ all_finite (map (times_power f k) v) =
+    let pair : (k : ℤ) (b : List Float) → let v = (eigen2_of f b).values in all_finite (times_all f k 3 (padded f 3 2 v))
+    ≡ all_finite (map (times_power f k) v) =
     λ (k : ℤ) (b : List Float). pair_made f k (eigen2_of f b).values (values2_length f b) in
     ((r.codes, ap mark_of r.marks), (λ k. pair k a ∙ made k ∙ sym (pair k (first_of 3 y))))
 

@@ -201,7 +201,8 @@ table =
     -- the whole example: event 7, kind 1, numbers 2, 1, 2; h is CD 3B 7F 66 9E A0 E6 3F
     ∷ row (whole (7 ∷ 0 ∷ 0 ∷ 0 ∷ 1 ∷ 0 ∷ 0 ∷ 0 ∷ two_bytes ++ one_bytes ++ two_bytes ++ replicate 72 0))
     (slice 0
-    (7 ∷ 0 ∷ 0 ∷ 0 ∷ 1 ∷ 0 ∷ 0 ∷ 1 ∷ one_bytes ++ three_bytes ++ replicate 8 0 ++ h_bytes 0x3F ++ h_bytes 0xBF ++ h_bytes 0x3F ++ h_bytes 0x3F ++ replicate 112 0))
+    (7 ∷ 0 ∷ 0 ∷ 0 ∷ 1 ∷ 0 ∷ 0 ∷ 1 ∷ one_bytes ++ three_bytes ++ replicate 8 0 ++ h_bytes 0x3F ++ h_bytes 0xBF ++ h_bytes 0x3F ++ h_bytes 0x3F
+    ++ replicate 112 0))
     ∷ []
 
 -- ---- where the ways part

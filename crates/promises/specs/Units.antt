@@ -54,7 +54,8 @@ pub record SameAxes (f : Format) (j : ℤ) (s t : List ℕ) : Type 0 where
 
 abbrev pub StayNormal : Format → ℤ → List ℕ → Type 0
 StayNormal f j s =
-    (i : ℕ) → i < 3 → (zero_or_normal f (shifted (power_in f s) (value_in f s i)) ≡ true) × (zero_or_normal f (shifted (power_in f s +ℤ j) (value_in f s i)) ≡ true)
+    (i : ℕ) → i < 3 → (zero_or_normal f (shifted (power_in f s) (value_in f s i)) ≡ true)
+    × (zero_or_normal f (shifted (power_in f s +ℤ j) (value_in f s i)) ≡ true)
 
 pub record TimesExactly (f : Format) (j : ℤ) (s t : List ℕ) : Type 0 where
   pub codes : (judged_of f s).code ≡ (judged_of f t).code

@@ -82,7 +82,8 @@ head_byte f event kind w i h = ap (λ (k : ℕ). get_or (record_of f event kind 
 pub code_in_place : (f : Format) (s a : List ℕ) → length a ≡ answer_size f → get_or (record_step_of f s a).answer code_at 0 ≡ (record_step_of f s a).code
 code_in_place f s a h = each_record (λ (t : Step). get_or t.answer code_at 0 ≡ t.code) f s a h (λ event kind w e _ _. head_byte f event kind w 1 e)
 
-pub code_unless_2 : (f : Format) (s a : List ℕ) → ((record_step_of f s a).code ≡ 2 → ⊥) → get_or (record_step_of f s a).answer code_at 0 ≡ (record_step_of f s a).code
+pub code_unless_2 : (f : Format) (s a : List ℕ) → ((record_step_of f s a).code ≡ 2 → ⊥) → get_or (record_step_of f s a).answer code_at 0
+    ≡ (record_step_of f s a).code
 code_unless_2 f s a k =
     whether (length a) (answer_size f) (code_in_place f s a) (λ n. absurd (k (ap (λ (t : Step). t.code) (no_room f s a n))))
 

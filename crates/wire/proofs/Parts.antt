@@ -1,5 +1,6 @@
 -- Parts of a list of bytes: the first byte of one, a part that goes past the end, bytes stored in the place of others, and parts one after the other.
-use Rattle.float.proofs.Words.{◌≡◌, sym, ◌∙◌, List, [], ◌∷◌, ◌++◌, ℕ, suc, ◌+◌, ◌-◌, ◌*◌, ◌≤◌, ◌<◌, mul-suc, arith, add-one, add-zero, length, get_or, take, drop}
+use Rattle.float.proofs.Words.{◌≡◌, sym, ◌∙◌, List, [], ◌∷◌, ◌++◌, ℕ, suc, ◌+◌, ◌-◌, ◌*◌, ◌≤◌, ◌<◌, mul-suc, arith, add-one, add-zero, length, get_or, take}
+use Rattle.float.proofs.Words.{drop}
 use Rattle.float.proofs.Words.{set, length-take, length-drop, length-append, take_all, take_at, drop_at, drop-cons, drop-drop, sets, sets-eq, le-leb, lt-leb}
 use lib.Seq.{length-sets, take-append-le, drop-append-le}
 use Rattle.wire.specs.Bytes.{part, placed_of}

@@ -11,7 +11,10 @@ loop-i-init c = starts _ _ _ c.requires
 pub loop-i-preserved : goal.loop-i-preserved
 loop-i-preserved c = let s = c.loop-i.invariant in
     let go = c.loop-i-test.true in
-    elim c.if-odd-left.branch [ then-odd-left w ↦ rw (w.q-is, w.left-is) (digit-one _ _ _ _ _ _ _ (lit< tt) s go w.if-odd-left.true) | else-odd-left w ↦ rw (w.q-is, w.left-is) (digit-zero _ _ _ _ _ _ _ (lit< tt) s go w.if-odd-left.false) ]
+    elim c.if-odd-left.branch [
+      | then-odd-left w ↦ rw (w.q-is, w.left-is) (digit-one _ _ _ _ _ _ _ (lit< tt) s go w.if-odd-left.true)
+      | else-odd-left w ↦ rw (w.q-is, w.left-is) (digit-zero _ _ _ _ _ _ _ (lit< tt) s go w.if-odd-left.false)
+    ]
 
 pub returns : goal.returns
 returns c = ends (hid F) (prec F) (hid F) _ _ _ _ _ (lit< tt) refl c.loop-i.invariant c.loop-i-test.false

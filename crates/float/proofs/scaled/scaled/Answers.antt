@@ -14,7 +14,8 @@ held : (c : After-limited-j) → to_z W (of_z W c.limited-j.result) ≡ limited 
 held c = limited_held F W (lit< tt) c.args.k c.limited-j.result c.ranges.k c.limited-j.ensures
 
 pub returns-then-j-le-GREATEST : goal.returns-then-j-le-GREATEST
-returns-then-j-le-GREATEST c = rw (c.power.ensures, held (goal.at.returns-then-j-le-GREATEST c).After-limited-j) (times_power_lem F (limited F c.args.k) c.args.x)
+returns-then-j-le-GREATEST c =
+    rw (c.power.ensures, held (goal.at.returns-then-j-le-GREATEST c).After-limited-j) (times_power_lem F (limited F c.args.k) c.args.x)
 
 pub returns : goal.returns
 returns c = let k = c.args.k in

@@ -10,7 +10,9 @@ unfolding to_bits signum_of
 returns-then-b-gt-INFINITY c = sym (ap (λ x. to_bits F (signum_of x)) (above_infinity F c.args.b c.if-b-gt-INFINITY.true))
 
 pub returns-then-b-ge-SIGN : goal.returns-then-b-ge-SIGN
-returns-then-b-ge-SIGN c = let b = c.args.b in unfold to_bits in rw ((sign_of F b (no_nan_value F b c.if-b-gt-INFINITY.false)).1, le-leb _ b c.if-b-ge-SIGN.true)
+returns-then-b-ge-SIGN c = let b = c.args.b in unfold to_bits in
+    rw ((sign_of F b (no_nan_value F b c.if-b-gt-INFINITY.false)).1, le-leb _ b c.if-b-ge-SIGN.true)
 
 pub returns-else-b-ge-SIGN : goal.returns-else-b-ge-SIGN
-returns-else-b-ge-SIGN c = let b = c.args.b in unfold to_bits in rw ((sign_of F b (no_nan_value F b c.if-b-gt-INFINITY.false)).1, lt-leb _ b c.if-b-ge-SIGN.false)
+returns-else-b-ge-SIGN c = let b = c.args.b in unfold to_bits in
+    rw ((sign_of F b (no_nan_value F b c.if-b-gt-INFINITY.false)).1, lt-leb _ b c.if-b-ge-SIGN.false)
