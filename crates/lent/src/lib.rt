@@ -14,6 +14,7 @@ use matrix::codes::{ANSWER_NOT_FINITE, DONE, INPUT_NOT_FINITE};
 use matrix::symmetric::{Sym3, Sym3Answer};
 
 // The code and the matrix that is to stand afterwards, the old one on refusal.
+#[tactic(auto, unfolding(crate::specs::InPlace::rotated_of))]
 fn rotated(a: Sym3, p: Pair, r: Rotation) -> Sym3Answer
     ensures { result ≡ sym3_answer (rotated_of F p r a.«data») }
 {

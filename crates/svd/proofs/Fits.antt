@@ -15,8 +15,8 @@ use Rattle.jacobi.proofs.Sorted.{below3}
 use Rattle.svd.specs.Polar.{two_sided_of, blind_sides}
 use Rattle.svd.specs.Pairs.{entry, pair_of, sides_of, chosen_of, applied_of}
 use Rattle.svd.specs.Svd2x2.{sides2_of, factors2_of, refused_svd2, numbers2_of, answer2_of, end2_of, svd2_of}
-use Rattle.svd.specs.Svd3x3.{State, settled_of, step_of, run_of, start_of, last_of, watched_last_of, factors_of}
-use Rattle.svd.specs.Svd3x3.{refused_svd, numbers_of, answer_of, end_of, svd_of}
+use Rattle.svd.specs.Svd3x3.{State, settled_of, step_of, run_of, start_of, last_of, watched_last_of, factors_of, refused_svd, numbers_of, answer_of, end_of}
+use Rattle.svd.specs.Svd3x3.{svd_of}
 use Rattle.svd.specs.declared.polar.TwoSided.{TwoSided}
 use Rattle.svd.specs.declared.svd2x2.Svd2.{Svd2}
 use Rattle.svd.specs.declared.svd3x3.Svd3.{Svd3}

@@ -1,5 +1,5 @@
--- An answer is that of the run which is not watched, but for its mark: both are judged by the same numbers, and a refusal has no mark to take away. So where no
--- rotation is blind the two are the same; and none is where no symmetrised pair that is turned has a tiny diagonal.
+-- An answer is that of the run which is not watched, but for its mark: both are judged by the same numbers, and a refusal has no mark to take away. So where
+-- no rotation is blind the two are the same; and none is where no symmetrised pair that is turned has a tiny diagonal.
 use Rattle.float.proofs.Words.{◌≡◌, sym, ap, ◌∙◌, Bool, false, not, and-true, List, Float, Format}
 use mathlib.Core.Bool.{and-false}
 use Rattle.float.proofs.Judged.{judged_through}

@@ -1,7 +1,7 @@
--- Code and mark of a 2x2 matrix and of its negation are the same. Where the hypot of the polar step is not zero, its cosine and sine are negated too, and the
--- symmetrised pair is the same; where it is zero, they are the same, and the pair is negated. Either way the Jacobi rotation is the same, and blind for both or
--- for none. V and the values, which are magnitudes, are the same too, and U differs in signs only. So all numbers of one answer are finite exactly where all
--- those of the other are.
+-- Code and mark of a 2x2 matrix and of its negation are the same. Where the hypot of the polar step is not zero, its cosine and sine are negated too,
+-- and the symmetrised pair is the same; where it is zero, they are the same, and the pair is negated. Either way the Jacobi rotation is the same, and
+-- blind for both or for none. V and the values, which are magnitudes, are the same too, and U differs in signs only. So all numbers of one answer are
+-- finite exactly where all those of the other are.
 use Rattle.float.proofs.Words.{◌≡◌, refl, sym, ap, ◌∙◌, subst, subst₂, Bool, true, not, List, ℕ, ◌*◌, length, Float, Format, neg, add}
 use Rattle.float.proofs.Words.{sub, eq}
 use Rattle.float.specs.Width.{F}

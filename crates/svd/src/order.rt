@@ -24,18 +24,21 @@ pub struct Factors2 {
 }
 
 // A column of U changes sign where the value's sign bit is set, -0 too (dense3x3/svd.rs, lines 213 to 222).
+#[tactic(auto, unfolding(crate::specs::Order::signed_column))]
 fn sign1(u: Mat3, x: Real) -> Mat3
     ensures { result ≡ mat3 (signed_column 3 0 x u.«data») }
 {
     if sign_bit(x) { u.flip1() } else { u }
 }
 
+#[tactic(auto, unfolding(crate::specs::Order::signed_column))]
 fn sign2(u: Mat3, x: Real) -> Mat3
     ensures { result ≡ mat3 (signed_column 3 1 x u.«data») }
 {
     if sign_bit(x) { u.flip2() } else { u }
 }
 
+#[tactic(auto, unfolding(crate::specs::Order::signed_column))]
 fn sign3(u: Mat3, x: Real) -> Mat3
     ensures { result ≡ mat3 (signed_column 3 2 x u.«data») }
 {
@@ -43,6 +46,7 @@ fn sign3(u: Mat3, x: Real) -> Mat3
 }
 
 // Two values change places, with their columns of U and V, where the first is below the second (lines 225 to 229).
+#[tactic(auto, unfolding(jacobi::specs::Order::ordered))]
 fn descend12(w: Factors3) -> Factors3
     ensures { result ≡ factors3 (ordered 3 descending (exchange_both 3) 0 1 (of_factors3 w)) }
 {
@@ -64,6 +68,7 @@ fn descend12(w: Factors3) -> Factors3
 }
 
 // The same of the first and the third (lines 232 to 236).
+#[tactic(auto, unfolding(jacobi::specs::Order::ordered))]
 fn descend13(w: Factors3) -> Factors3
     ensures { result ≡ factors3 (ordered 3 descending (exchange_both 3) 0 2 (of_factors3 w)) }
 {
@@ -85,6 +90,7 @@ fn descend13(w: Factors3) -> Factors3
 }
 
 // The same of the second and the third (lines 239 to 243).
+#[tactic(auto, unfolding(jacobi::specs::Order::ordered))]
 fn descend23(w: Factors3) -> Factors3
     ensures { result ≡ factors3 (ordered 3 descending (exchange_both 3) 1 2 (of_factors3 w)) }
 {
@@ -106,6 +112,7 @@ fn descend23(w: Factors3) -> Factors3
 }
 
 // Signs first, then the order (lines 195 to 246).
+#[tactic(auto, unfolding(crate::specs::Order::order_of))]
 pub fn fix_order_and_signs_3x3(a: Real, b: Real, c: Real, u: Mat3, v: Mat3) -> Factors3
     ensures { result ≡ factors3 (order_of a b c u.«data» v.«data») }
 {
@@ -119,12 +126,14 @@ pub fn fix_order_and_signs_3x3(a: Real, b: Real, c: Real, u: Mat3, v: Mat3) -> F
 }
 
 // The same of two columns (dense2x2/svd.rs, lines 53 to 59).
+#[tactic(auto, unfolding(crate::specs::Order::signed_column))]
 fn sign1_2x2(u: Mat2, x: Real) -> Mat2
     ensures { result ≡ mat2 (signed_column 2 0 x u.«data») }
 {
     if sign_bit(x) { u.flip1() } else { u }
 }
 
+#[tactic(auto, unfolding(crate::specs::Order::signed_column))]
 fn sign2_2x2(u: Mat2, x: Real) -> Mat2
     ensures { result ≡ mat2 (signed_column 2 1 x u.«data») }
 {
@@ -132,6 +141,7 @@ fn sign2_2x2(u: Mat2, x: Real) -> Mat2
 }
 
 // The same of two values (lines 62 to 66).
+#[tactic(auto, unfolding(jacobi::specs::Order::ordered))]
 fn descend_2x2(w: Factors2) -> Factors2
     ensures { result ≡ factors2 (ordered 2 descending (exchange_both 2) 0 1 (of_factors2 w)) }
 {
@@ -152,6 +162,7 @@ fn descend_2x2(w: Factors2) -> Factors2
 }
 
 // Signs first, then the order (lines 25 to 69).
+#[tactic(auto, unfolding(crate::specs::Order::order2_of))]
 pub fn set_order_and_signs_2x2(a: Real, b: Real, u: Mat2, v: Mat2) -> Factors2
     ensures { result ≡ factors2 (order2_of a b u.«data» v.«data») }
 {

@@ -78,6 +78,7 @@ fn get_rotation_elements(a: Mat3, p: Pair) -> Elements
 }
 
 // The two-sided rotation of a pair (lines 29 and 30).
+#[tactic(auto, unfolding(crate::specs::Pairs::sides_of))]
 pub(crate) fn rotation_of(a: Mat3, p: Pair) -> TwoSided
     ensures { result ≡ sides_of F p a.«data» }
 {

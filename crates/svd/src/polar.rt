@@ -47,6 +47,7 @@ fn hypot_of_sizes(large: Real, small: Real) -> Real
 }
 
 // The root of x^2 + y^2, by the quotient of the smaller and the larger (lines 141 to 170).
+#[tactic(auto, unfolding(crate::specs::Polar::hypot_of))]
 pub fn hypot_fast(x: Real, y: Real) -> Real
     ensures { result ≡ hypot_of F x y }
 {
@@ -73,6 +74,7 @@ fn symmetrised(app: Real, aqp: Real, apq: Real, aqq: Real, c: Real, s: Real) -> 
 }
 
 // By the sum x of the diagonal, the difference y beside it, and their hypot d (lines 180 to 186).
+#[tactic(auto, unfolding(crate::specs::Polar::polar_by))]
 fn polar_by(app: Real, aqp: Real, apq: Real, aqq: Real, x: Real, y: Real, d: Real) -> Polar
     ensures { result ≡ polar_by F app aqp apq aqq x y d }
 {
@@ -84,6 +86,7 @@ fn polar_by(app: Real, aqp: Real, apq: Real, aqq: Real, x: Real, y: Real, d: Rea
 }
 
 // A rotation that makes the pair symmetric (lines 172 to 193).
+#[tactic(auto, unfolding(crate::specs::Polar::polar_of))]
 pub fn compute_polar_2x2(app: Real, aqp: Real, apq: Real, aqq: Real) -> Polar
     ensures { result ≡ polar_of F app aqp apq aqq }
 {
@@ -110,6 +113,7 @@ fn compose(p: Polar, j: Rotation) -> TwoSided
 }
 
 // The rotation from both sides that makes the pair diagonal (lines 64 to 88).
+#[tactic(auto, unfolding(crate::specs::Polar::two_sided_of))]
 pub fn compute_two_sided_rotation(app: Real, aqp: Real, apq: Real, aqq: Real) -> TwoSided
     ensures { result ≡ two_sided_of F app aqp apq aqq }
 {

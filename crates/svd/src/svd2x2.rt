@@ -23,6 +23,7 @@ pub struct Svd2 {
 }
 
 // The turns by columns, and the order of what they leave (dense2x2/svd.rs, lines 43 to 51).
+#[tactic(auto, unfolding(crate::specs::Svd2x2::factors2_of))]
 fn factors(r: TwoSided) -> Factors2
     ensures { result ≡ factors2 (factors2_of r) }
 {
@@ -48,6 +49,7 @@ fn refused(code: u8) -> Svd2
 }
 
 // The answer, if all its numbers are finite.
+#[tactic(auto, unfolding(float::specs::Judged::judged))]
 fn judge(w: Factors2, blind: bool) -> Svd2
     ensures { result ≡ judged (refused_svd2 F) 7 (numbers2_of (of_factors2 w)) (answer2_of blind (of_factors2 w)) }
 {
@@ -69,6 +71,7 @@ fn judge(w: Factors2, blind: bool) -> Svd2
 }
 
 // Values in descending order, with the columns of U and V (lines 11 to 21).
+#[tactic(auto, unfolding(crate::specs::Svd2x2::svd2_of, crate::specs::Svd2x2::end2_of, float::specs::Judged::judged))]
 pub fn svd(a: Mat2) -> Svd2
     ensures { result ≡ svd2_of F a.«data» }
 {

@@ -48,6 +48,7 @@ fn under_limit(largest: OffDiag) -> bool
 }
 
 // The mark: no rotation was blind, and all sums of a pair's magnitudes are strictly under 2^-44.
+#[tactic(auto, unfolding(crate::specs::Svd3x3::settled_of))]
 fn is_settled(blind: bool, a: Mat3) -> bool
     ensures { result ≡ marked blind (settled_of F a.«data») }
 {
@@ -114,6 +115,7 @@ fn refused(code: u8) -> Svd3
 }
 
 // The diagonal's values in order, with their columns (line 39).
+#[tactic(auto, unfolding(crate::specs::Svd3x3::factors_of))]
 fn factors(w: Working) -> Factors3
     ensures { result ≡ factors3 (factors_of (of_working w).state) }
 {
@@ -140,6 +142,7 @@ fn worked_finite(a: Mat3, x: Factors3) -> bool
 }
 
 // The answer, if all its numbers are finite.
+#[tactic(auto, unfolding(float::specs::Judged::judged))]
 fn judge(w: Working) -> Svd3
     ensures { result ≡ judged (refused_svd F) 7 (numbers_of (of_working w).state) (answer_of F (of_working w)) }
 {
@@ -165,6 +168,7 @@ fn judge(w: Working) -> Svd3
 }
 
 // Values in descending order, with the columns of U and V (lines 11 to 40).
+#[tactic(auto, unfolding(crate::specs::Svd3x3::svd_of, crate::specs::Svd3x3::end_of, float::specs::Judged::judged))]
 pub fn svd(a: Mat3) -> Svd3
     ensures { result ≡ svd_of F a.«data» }
 {
