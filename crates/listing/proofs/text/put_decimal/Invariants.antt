@@ -5,7 +5,10 @@ use Rattle.listing.proofs.text.put_decimal.Given as goal
 
 abbrev pub invariant-loop-rest : goal.invariant-loop-rest
 invariant-loop-rest l =
-    (l.i ≡ l.at + length (decimal_of l.rest)) × (l.i ≤ l.end) × (l.rest < 2 ^ 64) × (length l.out ≡ length l.initial.out)
+    (l.i ≡ l.at + length (decimal_of l.rest))
+    × (l.i ≤ l.end)
+    × (l.rest < 2 ^ 64)
+    × (length l.out ≡ length l.initial.out)
     × (sets l.out l.at (decimal_of l.rest) ≡ sets l.initial.out l.at (decimal_of l.n))
 
 abbrev pub decreases-loop-rest : goal.decreases-loop-rest
