@@ -1,32 +1,37 @@
 // Standard input and output. A read or a write that fails ends the matter, also one that a signal broke off.
-ghost use Rattle.std.specs.Prelude.{◌≤◌, length};
+ghost use Rattle.std.specs.Prelude.{◌≤◌, length, take};
+ghost use Rattle.std.specs.Bool.{OnTrue};
+ghost use Rattle.std.specs.Io.KnownBytes.{Appends, Consumes};
 
 use std::io::{Read, Write};
 
 // Reads until buf is full, the input ends or a read fails, and says how many bytes came; they stand at the front.
 pub(crate) fn read_full<R: Read>(from: &mut R, buf: &mut [u8]) -> usize
-    ensures { result ≤ length buf.new }
+    ensures bound { result ≤ length buf.new }
+    ensures bytes { Consumes (R.remaining from.old) (R.remaining from.new) (take result buf.new) }
 {
     let mut done = 0;
     while done < buf.len() {
-        let came = from.read(&mut buf[done..]).unwrap_or(0);
-        if came == 0 {
-            return done;
+        match from.read(&mut buf[done..]) {
+            Ok(0) => return done,
+            Ok(came) => done += came,
+            Err(_) => return done,
         }
-        done += came;
     }
     done
 }
 
 // Writes all of the bytes, or stops at the first write that takes nothing or fails; says whether all are written.
-pub(crate) fn write_all<W: Write>(to: &mut W, bytes: &[u8]) -> bool {
+pub(crate) fn write_all<W: Write>(to: &mut W, bytes: &[u8]) -> bool
+    ensures { OnTrue result (Appends (W.contents to.old) (W.contents to.new) bytes.now) }
+{
     let mut done = 0;
     while done < bytes.len() {
-        let taken = to.write(&bytes[done..]).unwrap_or(0);
-        if taken == 0 {
-            return false;
+        match to.write(&bytes[done..]) {
+            Ok(0) => return false,
+            Ok(taken) => done += taken,
+            Err(_) => return false,
         }
-        done += taken;
     }
     true
 }
