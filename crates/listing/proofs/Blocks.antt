@@ -36,7 +36,8 @@ module _ (t : List ℕ) (first from width : ℕ) where
 
   -- the counts of line i, as a slice from their place to the next line's
   pub line_slice : (i : ℕ)
-      → counts_line (decimal_of (first + i)) (take (from + width * i + width - (from + width * i)) (drop (from + width * i) t)) ≡ block_line t first from width i
+      → counts_line (decimal_of (first + i)) (take (from + width * i + width - (from + width * i)) (drop (from + width * i) t))
+      ≡ block_line t first from width i
   unfolding block_line
   line_slice i = let e : from + width * i + width - (from + width * i) ≡ width = omega arith in rw e
 

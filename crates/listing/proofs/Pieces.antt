@@ -4,7 +4,8 @@ use Rattle.kinds.specs.Table.{kinds}
 use Rattle.counts.specs.Known.{most_turns}
 use Rattle.counts.specs.Cells.{columns, turning, turns_at}
 use Rattle.listing.specs.Putting.{Puts, block_line, block_of}
-use Rattle.listing.specs.Page.{heading, turns_heading, kind_lines, turns_lines, other_line, total_line, records_line, foreign_line, left_line, rows_text, sums_text}
+use Rattle.listing.specs.Page.{heading, turns_heading, kind_lines, turns_lines, other_line, total_line, records_line, foreign_line, left_line, rows_text}
+use Rattle.listing.specs.Page.{sums_text}
 use Rattle.listing.specs.Page.{turns_text, listing_of}
 use Rattle.listing.proofs.Stores.{puts_then}
 

@@ -18,4 +18,5 @@ module _ {A B : Type 0} (g : A → B → ℕ) where
 pub records_line_lem : (f : Format) (s : List ℕ) → records_in (tally_of f s) ≡ records_of f s
 records_line_lem f s =
     let t = tally_of f s in
-    ap (λ (n : ℕ). n + get_or t foreign_at 0) (sym (exchanged (λ (k : ℕ) (code : ℕ). get_or t (place_of (coded k code)) 0) row_numbers codes)) ∙ records_added f s
+    ap (λ (n : ℕ). n + get_or t foreign_at 0) (sym (exchanged (λ (k : ℕ) (code : ℕ). get_or t (place_of (coded k code)) 0) row_numbers codes))
+    ∙ records_added f s

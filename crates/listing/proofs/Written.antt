@@ -13,7 +13,8 @@ module _ (t out : List ℕ) where
   unfolding written_of
   written_wrong h n = rw (le-leb listing_most (length out) h, ne_eqb (length t) tally_size n)
 
-  pub written_past : listing_most ≤ length out → length t ≡ tally_size → all_fit (records_in t ∷ totals_of t) ≡ false → written_of t out ≡ refused_listing 14 out
+  pub written_past : listing_most ≤ length out → length t ≡ tally_size → all_fit (records_in t ∷ totals_of t) ≡ false → written_of t out
+      ≡ refused_listing 14 out
   unfolding written_of
   written_past h n f = rw (le-leb listing_most (length out) h, eq-eqb (length t) tally_size n, f)
 
