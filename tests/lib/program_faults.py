@@ -463,6 +463,10 @@ def closed_pipe():
 
 def closed_pipe_signal():
     run = until_closed(signals_kept=False)
+    if KIND == 'proved':
+        # the start of a proved program takes the signal away before its main, so the write fails, and that is told
+        run.end_failed('write')
+        return
     status = run.end()
     expect(status == -signal.SIGPIPE and run.said == '', f'status {status}, and said {run.said!r}')
 
