@@ -1,8 +1,8 @@
 -- A row that is filled from the front: the first i places hold what a function gives for the matrices there, and the others what was found. Laws over any
 -- function, and what they make of the gate's number of places.
 use Rattle.float.proofs.Words.{◌≡◌, refl, sym, ap, ◌∙◌, List, [], ◌∷◌, ◌++◌, append-nil, map, ℕ, zero, suc, ◌≤◌, ◌<◌, min, arith, eqb, length, get_or, set}
-use Rattle.float.proofs.Words.{take, drop, take_all, drop-length, le_refl, leb, leb-true, eqb-true, Format}
-use lib.ListN.{drop_of_length-le as drop_all}
+use Rattle.float.proofs.Words.{take, drop, length-append, length-take, length-drop, take_all, drop-length, le_refl, leb, leb-true, eqb-true, Format}
+use lib.ListN.{length-map, drop_of_length-le as drop_all}
 use Rattle.float.specs.Width.{F}
 use Rattle.float.proofs.Choice.{by_test, by_eqb, both_chosen, either}
 use Rattle.matrix.specs.declared.square.Mat3.{Mat3}
@@ -12,6 +12,10 @@ use Rattle.row.specs.Row.{most_places, row_code_of, single_of, gate_of, svd_row_
 module _ {A B : Type 0} (g : A → B) where
   abbrev pub filled_to : ℕ → List A → List B → List B
   filled_to i xs found = map g (take i xs) ++ drop i found
+
+  -- no place comes or goes
+  pub filled-length : (i : ℕ) (xs : List A) (found : List B) → i ≤ length xs → i ≤ length found → length (filled_to i xs found) ≡ length found
+  filled-length i xs found h k = simp (length-append, length-map, length-take, length-drop) (omega arith)
 
   -- one place more
   pub filled_next : (i : ℕ) (xs : List A) (found : List B) (d : A) → i < length xs → i < length found
