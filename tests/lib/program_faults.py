@@ -456,16 +456,20 @@ def until_closed(**settings):
     return run
 
 
-def closed_pipe():
-    written = until_closed().end_failed('write')
+def tells_of_closed_pipe(run):
+    written = run.end_failed('write')
     expect(WORK.told == '' or 3 <= written < RECORDS * 40, f'{written} answers written')
+
+
+def closed_pipe():
+    tells_of_closed_pipe(until_closed())
 
 
 def closed_pipe_signal():
     run = until_closed(signals_kept=False)
     if KIND == 'proved':
         # the start of a proved program takes the signal away before its main, so the write fails, and that is told
-        run.end_failed('write')
+        tells_of_closed_pipe(run)
         return
     status = run.end()
     expect(status == -signal.SIGPIPE and run.said == '', f'status {status}, and said {run.said!r}')
