@@ -26,7 +26,7 @@ fn of_parts(p: Parts) -> [u64; 64] {
 }
 
 // A number, an exponent; the number times the power of two.
-fn times_power_lem(words: [u64; 40]) -> [u64; 64] {
+fn times_power(words: [u64; 40]) -> [u64; 64] {
     begin(
         to_bits(scaled(number(words, 0), to_signed(word(words, 1)))),
         0,
@@ -51,7 +51,7 @@ pub(crate) fn float(op: u64, words: [u64; 40]) -> [u64; 64] {
     let pattern = word(words, 0);
     match op {
         8 => of_parts(parts_of(pattern)),
-        9 => times_power_lem(words),
+        9 => times_power(words),
         10 => begin(of_signed(power_under(pattern)), 0, 0),
         11 => power_of_largest(words),
         _ => begin(of_pattern(op, pattern), 0, 0),
