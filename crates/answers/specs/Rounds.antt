@@ -8,10 +8,8 @@ use Rattle.stdio.specs.Kept.{whole_of, rest_of}
 use Rattle.record.specs.Layout.{request_size, answer_size}
 use Rattle.record.specs.Answer.{wrong_size_of}
 use Rattle.record.specs.Stream.{answers_of}
-use Rattle.answers.specs.declared.decide.End.TheVariants.{CannotRead}
-use Rattle.answers.specs.declared.decide.State.{State}
 use Rattle.answers.specs.Buffers.{room}
-use Rattle.answers.specs.States.{start_of, go_on, stop_of, after_answers, at_end}
+use Rattle.answers.specs.States.{State, CannotRead, start_of, go_on, stop_of, after_answers, at_end}
 
 -- n is the number of whole requests among s, and their answers stand first
 abbrev pub Answered : Format → List ℕ → List ℕ → ℕ → Type 0

@@ -1,13 +1,30 @@
 -- Where the program stands between two rounds, and what a round makes of that. Definitions only.
-use Rattle.std.specs.Prelude.{ℕ, ◌+◌, ◌-◌, ◌*◌, ◌/◌, ◌≤◌, ◌<◌, ltb}
+use Rattle.std.specs.Prelude.{ℕ, ◌+◌, ◌-◌, ◌*◌, ◌/◌, ◌≤◌, ◌<◌, ltb, Result, Ok, Err}
+use Rattle.std.specs.declared.ops.ControlFlow.{ControlFlow}
+use Rattle.std.specs.declared.ops.ControlFlow.TheVariants.{Continue, Break}
 use Rattle.std.specs.Float.{Format}
 use Rattle.float.specs.Choice.{pick}
 use Rattle.stdio.specs.Calls.{most_calls}
 use Rattle.record.specs.Layout.{request_size, answer_size}
-use Rattle.answers.specs.declared.decide.End.{End}
-use Rattle.answers.specs.declared.decide.End.TheVariants.{Well, CannotWrite, TooManyReads}
-use Rattle.answers.specs.declared.decide.State.{State}
+use Rattle.answers.specs.declared.decide.Failure.{Failure}
+use Rattle.answers.specs.declared.decide.Failure.TheVariants as failure
+use Rattle.answers.specs.declared.decide.Progress.{Progress}
 use Rattle.answers.specs.Buffers.{batch}
+
+-- how the program ends
+pub data End : Type 0 where
+  Well : End
+  CannotRead : End
+  CannotWrite : End
+  TooManyReads : End
+
+-- so many rounds may follow, which is none once the program has ended; so many bytes of a request are kept for the next; so many answers are
+-- written; and this is how it ends if no round follows
+pub record State : Type 0 where
+  pub rounds : ℕ
+  pub kept : ℕ
+  pub written : ℕ
+  pub end : End
 
 -- before the first round
 abbrev pub start_of : State
@@ -38,3 +55,31 @@ at_end f s gone = pick (ltb 0 s.kept) (after_part f s gone) (stop_of Well s.writ
 -- less than a request is kept, and the number of answers leaves room for those of every round to come
 abbrev pub Ready : Format → State → Type 0
 Ready f s = (s.kept < request_size f) × (s.written + batch f * s.rounds ≤ batch f * most_calls)
+
+-- ---- the program's values as states
+
+-- so far, with so many rounds to come
+abbrev pub standing : ℕ → Progress → State
+standing rounds p = record { rounds = rounds; kept = p.kept; written = p.written; end = TooManyReads }
+
+-- stopped by a failure: of the reads, by their number alone
+abbrev pub stopped : Progress → Failure → State
+stopped p failure.CannotRead = stop_of CannotRead p.written
+stopped p failure.CannotWrite = stop_of CannotWrite p.written
+stopped p failure.TooManyReads = standing 0 p
+
+-- after one of so many rounds, with which the program goes on if it did not fail
+abbrev pub going : ℕ → Progress → Result Unit Failure → State
+going rounds p (Ok x) = standing (rounds - 1) p
+going rounds p (Err e) = stopped p e
+
+-- after the last round
+abbrev pub stopping : Progress → Result Unit Failure → State
+stopping p (Ok x) = stop_of Well p.written
+stopping p (Err e) = stopped p e
+
+-- after one of so many rounds, which says whether it was the last
+abbrev pub followed : ℕ → Progress → Result (ControlFlow Unit Unit) Failure → State
+followed rounds p (Ok (Continue x)) = standing (rounds - 1) p
+followed rounds p (Ok (Break x)) = stop_of Well p.written
+followed rounds p (Err e) = stopped p e

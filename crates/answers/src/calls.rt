@@ -1,22 +1,17 @@
 // The program's reads and writes. What they move no contract can say, and tests show it; what they leave of the bytes at hand, and the
-// bounds of what they answer, is said here.
+// bounds of what they answer, is said here. Each program has its own: a library's function has one answer within its promise, and these have not.
 ghost use Rattle.std.specs.Prelude.{◌≤◌, length};
 ghost use Rattle.float.specs.Width.{F};
 ghost use Rattle.stdio.specs.Calls.{Ended, ReadBehind};
-ghost use Rattle.answers.specs.Buffers.{Large, room};
+ghost use Rattle.answers.specs.Buffers.{room};
 
-use crate::ROOM;
+use crate::{LARGE, ROOM};
 use std::io::{Read, Stdin, Stdout, Write};
 use stdio::{Outcome, Writing, ended, to_write, wrote};
 
-// What failed, and how many answers went out whole, in one line. Where that cannot be said either, nothing is left to do.
-pub(crate) fn say(rt: HostRuntime, what: &str, written: u64) {
-    let _ = eprintln!(rt; "{what}{written} answers written");
-}
-
-// One read, behind the `have` bytes that are kept.
-pub(crate) fn read(mut input: Stdin, buf: &mut [u8], have: usize) -> Outcome
-    requires { Large buf.old × (have ≤ room F) }
+// One read, behind the `have` bytes that are kept. It is lent the whole buffer, since the promise is that these bytes stay.
+pub(crate) fn read(mut input: Stdin, buf: &mut [u8; LARGE], have: usize) -> Outcome
+    requires { have ≤ room F }
     ensures { ReadBehind have (room F) buf.old buf.new result }
 {
     let got = input.read(&mut buf[have..ROOM]);
@@ -27,12 +22,11 @@ pub(crate) fn read(mut input: Stdin, buf: &mut [u8], have: usize) -> Outcome
 pub(crate) fn put(mut output: Stdout, out: &[u8]) -> Writing
     ensures { Ended (length out.now) result }
 {
-    let end = out.len();
-    let mut w = to_write(end);
+    // `Writing` has the bound of these calls, and `calls_fall` is a law on it: a `for` would count them a second time.
+    let mut w = to_write(out.len());
     while w.calls > 0 {
-        let from = w.written;
-        let got = output.write(&out[from..]);
-        w = wrote(w, end, ended(got, end - from));
+        let got = output.write(&out[w.written..]);
+        w = wrote(w, out.len(), ended(got, out.len() - w.written));
     }
     w
 }

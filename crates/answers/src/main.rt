@@ -8,111 +8,129 @@
 mod calls;
 mod decide;
 
-ghost use Rattle.std.specs.Prelude.{◌+◌, ◌-◌, ◌≤◌, ◌<◌, ◌≡◌, take};
+ghost use Rattle.std.specs.Prelude.{ℕ, ◌+◌, ◌-◌, ◌≤◌, ◌<◌, ◌≡◌, take};
 ghost use Rattle.float.specs.Width.{F};
 ghost use Rattle.stdio.specs.Calls.{AtMost};
 ghost use Rattle.record.specs.Layout.{request_size, answer_size};
 ghost use Rattle.record.specs.Answer.{wrong_size_of};
-ghost use Rattle.answers.specs.Buffers.{Large, room};
-ghost use Rattle.answers.specs.States.{Ready};
+ghost use Rattle.answers.specs.Buffers.{room};
+ghost use Rattle.answers.specs.States.{standing, going, stopping, followed, Ready};
 ghost use Rattle.answers.specs.Rounds.{Answered, Served, LastServed, Followed, Finished};
 
-use crate::calls::{put, read, say};
-use crate::decide::{End, State, after_answers, after_part, go_on, start, stop};
+use crate::calls::{put, read};
+use crate::decide::{Failure, Progress};
 use record::answer::zanikory_answer_record;
 use record::layout::{ANSWER_SIZE, REQUEST_SIZE};
 use record::stream::answer_all;
 use std::io::{Stdin, Stdout};
-use stdio::{Outcome, keep_rest};
+use std::ops::ControlFlow;
+use stdio::{MOST_CALLS, Outcome, keep_rest};
+
+// The bytes of a large buffer.
+pub(crate) const LARGE: usize = 65536;
 
 // The bytes of as many requests as a large buffer holds answers to.
-pub(crate) const ROOM: usize = 65536 / ANSWER_SIZE * REQUEST_SIZE;
+pub(crate) const ROOM: usize = LARGE / ANSWER_SIZE * REQUEST_SIZE;
 
 // Answers the whole requests among the first `total` bytes, and says how many.
-fn answer_whole(buf: &[u8], out: &mut [u8], total: usize) -> usize
-    requires { Large buf.now × Large out.old × (total ≤ room F) }
-    ensures { Answered F (take total buf.now) out.new result }
+fn answer_whole(requests: &[u8; LARGE], answers: &mut [u8; LARGE], total: usize) -> usize
+    requires { total ≤ room F }
+    ensures { Answered F (take total requests.now) answers.new result }
 {
-    answer_all(&buf[..total], out);
-    total / REQUEST_SIZE
+    answer_all(&requests[..total], answers)
 }
 
-// Answers and writes the whole requests among the first `total` bytes, and keeps the rest.
-fn serve(output: Stdout, buf: &mut [u8], out: &mut [u8], s: State, total: usize) -> State
-    requires { Large buf.old × Large out.old × Ready F s × (0 < s.rounds) × (total ≤ room F) }
-    ensures { Served F (take total buf.old) buf.new out.new s result }
+// Answers a last part of a request, of `have` bytes of the buffer. Why that is no request stands in the answer.
+fn answer_part(requests: &[u8; LARGE], answers: &mut [u8; LARGE], have: usize)
+    requires { have < request_size F }
+    ensures { take (answer_size F) answers.new ≡ wrong_size_of F }
 {
-    let n = answer_whole(buf, out, total);
-    let end = ANSWER_SIZE * n;
-    let w = put(output, &out[..end]);
-    let from = REQUEST_SIZE * n;
-    let kept = total - from;
-    keep_rest(buf, from, kept);
-    after_answers(s, w.written, n, kept)
+    let _ = zanikory_answer_record(&requests[..have], &mut answers[..ANSWER_SIZE]);
 }
 
-// Answers a last part of a request, of `have` bytes.
-fn answer_part(buf: &[u8], out: &mut [u8], have: usize)
-    requires { Large buf.now × Large out.old × (have < request_size F) }
-    ensures { take (answer_size F) out.new ≡ wrong_size_of F }
-{
-    zanikory_answer_record(&buf[..have], &mut out[..ANSWER_SIZE]);
+// The requests at hand, their answers, and how far the program has come.
+#[derive(Drop)]
+struct Desk {
+    requests: [u8; LARGE],
+    answers: [u8; LARGE],
+    progress: Progress,
 }
 
-// The end of the input. A part that is kept is the last one.
-fn serve_last(output: Stdout, buf: &[u8], out: &mut [u8], s: State) -> State
-    requires { Large buf.now × Large out.old × Ready F s }
-    ensures { LastServed F out.new s result }
-{
-    let have = s.kept;
-    if have == 0 {
-        return stop(End::Well, s.written);
+impl Desk {
+    // Answers and writes the whole requests among the first `total` bytes, and keeps the rest.
+    fn serve(&mut self, output: Stdout, total: usize) -> Result<(), Failure>
+        requires { Ready F (standing 1 self.old.progress) × (total ≤ room F) }
+        ensures { (rounds : ℕ) → Served F (take total self.old.requests) self.new.requests self.new.answers
+            (standing rounds self.old.progress) (going rounds self.new.progress result) }
+    {
+        let n = answer_whole(&self.requests, &mut self.answers, total);
+        let w = put(output, &self.answers[..ANSWER_SIZE * n]);
+        let from = REQUEST_SIZE * n;
+        let kept = total - from;
+        keep_rest(&mut self.requests, from, kept);
+        self.progress.after_answers(w.written, n, kept)
     }
-    answer_part(buf, out, have);
-    let w = put(output, &out[..ANSWER_SIZE]);
-    after_part(s, w.written)
-}
 
-// What follows a read that ended so.
-fn follow(output: Stdout, o: Outcome, buf: &mut [u8], out: &mut [u8], s: State) -> State
-    requires { Large buf.old × Large out.old × Ready F s × (0 < s.rounds) × AtMost (room F - s.kept) o }
-    ensures { Followed F o buf.old buf.new out.new s result }
-{
-    match o {
-        Outcome::Bytes(n) => serve(output, buf, out, s, s.kept + n),
-        Outcome::Nothing => serve_last(output, buf, out, s),
-        Outcome::Interrupted => go_on(s, s.kept, s.written),
-        Outcome::Failed => stop(End::CannotRead, s.written),
+    // The end of the input. A part that is kept is the last one.
+    fn serve_last(&mut self, output: Stdout) -> Result<(), Failure>
+        requires { Ready F (standing 1 self.old.progress) }
+        ensures { LastServed F self.new.answers (standing 1 self.old.progress) (stopping self.new.progress result) }
+    {
+        let have = self.progress.kept;
+        if have == 0 {
+            return Ok(());
+        }
+        answer_part(&self.requests, &mut self.answers, have);
+        let w = put(output, &self.answers[..ANSWER_SIZE]);
+        self.progress.after_part(w.written)
     }
-}
 
-// What failed, if anything did.
-fn tell(rt: HostRuntime, end: End, written: u64) {
-    match end {
-        End::Well => {},
-        End::CannotRead => say(rt, "answers: cannot read: ", written),
-        End::CannotWrite => say(rt, "answers: cannot write: ", written),
-        End::TooManyReads => say(rt, "answers: too many reads: ", written),
+    // What follows a read that ended so: another, or the end.
+    fn follow(&mut self, output: Stdout, o: Outcome) -> Result<ControlFlow<()>, Failure>
+        requires { Ready F (standing 1 self.old.progress) × AtMost (room F - self.old.progress.kept) o }
+        ensures { (rounds : ℕ) → Followed F o self.old.requests self.new.requests self.new.answers
+            (standing rounds self.old.progress) (followed rounds self.new.progress result) }
+    {
+        match o {
+            Outcome::Bytes(n) => self.serve(output, self.progress.kept + n)?,
+            Outcome::Interrupted => {},
+            Outcome::Nothing => {
+                self.serve_last(output)?;
+                return Ok(ControlFlow::Break(()));
+            },
+            Outcome::Failed => return Err(Failure::CannotRead),
+        }
+        Ok(ControlFlow::Continue(()))
     }
-}
 
-// Reads and serves, until no round follows.
-fn serve_input(input: Stdin, output: Stdout, buf: &mut [u8], out: &mut [u8]) -> State
-    requires { Large buf.old × Large out.old }
-    ensures { Finished F buf.new result }
-{
-    let mut s = start();
-    while s.rounds > 0 {
-        let o = read(input, buf, s.kept);
-        s = follow(output, o, buf, out, s);
+    // Reads and serves, until no round follows.
+    fn serve_input(&mut self, input: Stdin, output: Stdout) -> Result<(), Failure>
+        requires { self.old.progress ≡ record { kept = 0; written = 0 } }
+        ensures { Finished F self.new.requests (stopping self.new.progress result) }
+    {
+        for _round in 0..MOST_CALLS {
+            let o = read(input, &mut self.requests, self.progress.kept);
+            match self.follow(output, o)? {
+                ControlFlow::Continue(()) => {},
+                ControlFlow::Break(()) => return Ok(()),
+            }
+        }
+        Err(Failure::TooManyReads)
     }
-    s
 }
 
 fn main(rt: HostRuntime) {
-    let mut buf = io::large_buffer();
-    let mut out = io::large_buffer();
-    let s = serve_input(rt.stdin(), rt.stdout(), &mut buf, &mut out);
-    let end = s.end;
-    tell(rt, end, s.written);
+    let mut desk = Desk {
+        requests: io::large_buffer(),
+        answers: io::large_buffer(),
+        progress: Progress {
+            kept: 0,
+            written: 0,
+        },
+    };
+    if let Err(failure) = desk.serve_input(rt.stdin(), rt.stdout()) {
+        let written = desk.progress.written;
+        // Where that cannot be said either, nothing is left to do.
+        let _ = eprintln!(rt; "answers: {failure}: {written} answers written");
+    }
 }

@@ -1,5 +1,8 @@
+pub mod Told
 pub mod Pivots
 pub mod Stops
+pub mod Steps
+pub mod Tested
 pub mod Codes
 pub mod Rows
 pub mod Owed

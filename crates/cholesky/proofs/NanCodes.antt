@@ -1,6 +1,8 @@
 -- The codes of the kernels, of numbers of the format. A factor that is whole is finite, so 7 comes from a solution alone. The pivots of the 2x2 are numbers,
 -- so 9 comes from the third pivot of the 3x3 alone, exactly if L21 is a zero and L31 is infinite.
 use Rattle.float.proofs.Words.{◌≡◌, refl, sym, ap, ◌∙◌, Bool, true, false, false≢true, List, ◌++◌, ℕ, arith, length, Float, Format, binary64, to_bits}
+use Rattle.std.proofs.Common.{Result}
+use contract.Lifetimes.{Lfts}
 use Rattle.float.specs.Width.{F}
 use Rattle.float.specs.Choice.{pick}
 use Rattle.float.specs.Exactly.{Exactly}
@@ -10,15 +12,13 @@ use Rattle.float.proofs.Invalid.{nan_not_at_most}
 use Rattle.float.proofs.Judged.{stands, unjudged}
 use Rattle.float.proofs.Patterns.{only_nan}
 use Rattle.matrix.specs.Places.{at, zeros, Fit}
-use Rattle.matrix.specs.declared.symmetric.Sym2.{Sym2}
-use Rattle.matrix.specs.declared.symmetric.Sym3.{Sym3}
-use Rattle.cholesky.specs.Factor.{FactorAnswer, factor3, steps2_of, factor2_of, steps3_of, factor3_of}
+use Rattle.cholesky.specs.Factor.{FactorAnswer, factored, steps2_of, factor2_of, steps3_of, factor3_of}
 use Rattle.cholesky.specs.Pivot.{pivot_of}
 use Rattle.cholesky.specs.Pivots.{second_of, l32_of, third_of, pivots2_of, pivots3_of, one_at_most_zero, one_nan, refused_pivot, pivot_code}
 use Rattle.cholesky.specs.Solve.{solution2_of, factor_and_solve2_of, solution3_of, factor_and_solve3_of}
 use Rattle.cholesky.specs.NanPivot.{NanThird, before_third}
-use Rattle.cholesky.specs.declared.cholesky2x2.Factor2.{Factor2}
-use Rattle.cholesky.specs.declared.cholesky3x3.Factor3.{Factor3}
+use Rattle.cholesky.specs.Error.{factor_code}
+use Rattle.cholesky.specs.declared.answers.FactorError.{FactorError}
 use Rattle.cholesky.proofs.cholesky2x2.cholesky_2x2_explicit_factor.Reads as factor2-call
 use Rattle.cholesky.proofs.cholesky3x3.cholesky_3x3_explicit_factor.Reads as factor3-call
 use Rattle.cholesky.proofs.Codes.{factor2_code, factor3_code, solved2_code, solved3_code}
@@ -157,11 +157,13 @@ nine_bits l a fit size e = ap (λ (r : FactorAnswer). to_bits binary64 (at r.fac
 
 -- ---- any answer within the promise of a factor
 
-pub factor2_not_nine_call : (l a : Sym2) (r : Factor2) → factor2-call.Post tt (l, (a, tt)) r (l, (a, tt))
-    → Fit F 3 a.«data» → length a.«data» ≡ 3 → r.code ≡ 9 → ⊥
-factor2_not_nine_call l a r p fit size e = factor2_not_nine F l.«data» a.«data» fit size (sym (ap (λ (r : Factor2). r.code) p) ∙ e)
+pub factor2_not_nine_call : (κs : Lfts 1) (a : _) (r : Result (Unit {0}) FactorError) (s : _) → factor2-call.Post κs a r s
+    → Fit F 3 a.1.0.«data» → length a.1.0.«data» ≡ 3 → factor_code r ≡ 9 → ⊥
+factor2_not_nine_call κs a r s p fit size e =
+    factor2_not_nine F a.0.now.«data» a.1.0.«data» fit size (sym (ap (λ (w : FactorAnswer). w.code) p) ∙ e)
 
-pub nine_left_call : (l a : Sym3) (r : Factor3) → factor3-call.Post tt (l, (a, tt)) r (l, (a, tt))
-    → Fit F 6 a.«data» → length a.«data» ≡ 6 → r.code ≡ 9
-    → r ≡ factor3 (record { code = 9; pivot = 3; factor = before_third F l.«data» a.«data» })
-nine_left_call l a r p fit size e = p ∙ ap factor3 (nine_left F l.«data» a.«data» fit size (sym (ap (λ (r : Factor3). r.code) p) ∙ e))
+pub nine_left_call : (κs : Lfts 1) (a : _) (r : Result (Unit {0}) FactorError) (s : _) → factor3-call.Post κs a r s
+    → Fit F 6 a.1.0.«data» → length a.1.0.«data» ≡ 6 → factor_code r ≡ 9
+    → factored r s.0.now.«data» ≡ record { code = 9; pivot = 3; factor = before_third F a.0.now.«data» a.1.0.«data» }
+nine_left_call κs a r s p fit size e =
+    p ∙ nine_left F a.0.now.«data» a.1.0.«data» fit size (sym (ap (λ (w : FactorAnswer). w.code) p) ∙ e)

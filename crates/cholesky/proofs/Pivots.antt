@@ -1,5 +1,7 @@
--- What a factor makes of a pivot step: with a root it goes on, and in any other case it stops with the early writes.
-use Rattle.float.proofs.Words.{◌≡◌, refl, sym, ap, ◌∙◌, Bool, true, false, false≢true, List, ⊎_elim, ℕ, arith, Float, Format, lt, le, is_nan}
+-- What a factor makes of a pivot step: with a root it goes on, and in any other case it stops with the early writes. Each pivot is above zero, at most
+-- zero or NaN, and the code of its step tells which.
+use Rattle.std.specs.Prelude.{Result, Ok}
+use Rattle.float.proofs.Words.{◌≡◌, refl, sym, ap, ◌∙◌, List, Bool, true, false, false≢true, ⊎_elim, ℕ, arith, Float, Format, lt, le, is_nan}
 use Rattle.float.specs.Choice.{pick}
 use Rattle.float.specs.Constants.{zero_f}
 use Rattle.float.specs.Exactly.{Exactly, OneOfThree}
@@ -8,37 +10,15 @@ use Rattle.float.specs.Width.{F}
 use Rattle.float.proofs.Invalid.{one_of_three}
 use Rattle.cholesky.specs.Pivot.{PivotAnswer, with_root_of, without_root, pivot_answer, pivot_of, has_root, Cases}
 use Rattle.cholesky.specs.Factor.{FactorAnswer, stopped, with_root}
-use Rattle.cholesky.specs.declared.pivot.Pivot.{Pivot}
-use Rattle.cholesky.specs.declared.pivot.Pivot.TheVariants.{Root, AtMostZero, NotANumber}
+use Rattle.cholesky.specs.declared.answers.FactorError.{FactorError}
 use Rattle.cholesky.proofs.pivot.pivot_step.Reads as pivot-step
 
-module _ (f : Format) (p : Pivot) {a : PivotAnswer} (h : pivot_answer f p ≡ a) (early : List Float) (go : Float → FactorAnswer) where
-  pub goes_on : {x : Float} → p ≡ Root x → go x ≡ with_root a early go
+module _ (f : Format) (p : Result Float FactorError) {a : PivotAnswer} (h : pivot_answer f p ≡ a) (early : List Float) (go : Float → FactorAnswer) where
+  pub goes_on : {x : Float} → p ≡ Ok x → go x ≡ with_root a early go
   goes_on {x} e = ap (λ (b : PivotAnswer). with_root b early go) (sym (ap (pivot_answer f) e) ∙ h)
 
   pub stops_at : has_root (pivot_answer f p) ≡ false → stopped (pivot_answer f p) early ≡ with_root a early go
   stops_at e = rw h (rw (rw h at e))
-
--- the cases behind the first have no root
-pub no_root : (f : Format) (p : Pivot) → ((x : Float) → p ≡ Root x → ⊥) → has_root (pivot_answer f p) ≡ false
-no_root f (Root x) h = absurd (h x refl)
-no_root f (AtMostZero k) h = refl
-no_root f (NotANumber k) h = refl
-
--- a pivot step is told by its number and values, since each case has a number of its own
-other_case : (f : Format) (p q : Pivot) → ((pivot_answer f p).code ≡ (pivot_answer f q).code → ⊥) → pivot_answer f p ≡ pivot_answer f q → ⊥
-other_case f p q n e = n (ap (λ (a : PivotAnswer). a.code) e)
-
-pub same_pivot : (f : Format) (p q : Pivot) → pivot_answer f p ≡ pivot_answer f q → p ≡ q
-same_pivot f (Root x) (Root y) e = ap (λ (a : PivotAnswer). Root a.root) e
-same_pivot f (AtMostZero j) (AtMostZero k) e = ap (λ (a : PivotAnswer). AtMostZero a.pivot) e
-same_pivot f (NotANumber j) (NotANumber k) e = ap (λ (a : PivotAnswer). NotANumber a.pivot) e
-same_pivot f (Root x) (AtMostZero k) e = absurd (other_case f (Root x) (AtMostZero k) (λ c. omega arith) e)
-same_pivot f (Root x) (NotANumber k) e = absurd (other_case f (Root x) (NotANumber k) (λ c. omega arith) e)
-same_pivot f (AtMostZero k) (Root x) e = absurd (other_case f (AtMostZero k) (Root x) (λ c. omega arith) e)
-same_pivot f (AtMostZero k) (NotANumber j) e = absurd (other_case f (AtMostZero k) (NotANumber j) (λ c. omega arith) e)
-same_pivot f (NotANumber k) (Root x) e = absurd (other_case f (NotANumber k) (Root x) (λ c. omega arith) e)
-same_pivot f (NotANumber k) (AtMostZero j) e = absurd (other_case f (NotANumber k) (AtMostZero j) (λ c. omega arith) e)
 
 -- ---- root, at most zero, NaN: each pivot is in exactly one of the three cases, and its case is told by its number
 
@@ -65,5 +45,5 @@ pivot_told f t k = rw (code (le t (zero_f f)) (is_nan t)) (by_tests (lt (zero_f 
     code false false = refl
 
 -- of any answer within the promise of the pivot step
-pub pivot_told_call : (t : Float) (k : ℕ) (p : Pivot) → pivot-step.Post tt (t, (k, tt)) p (t, (k, tt)) → Cases F t (pivot_answer F p).code
+pub pivot_told_call : (t : Float) (k : ℕ) (p : Result Float FactorError) → pivot-step.Post tt (t, (k, tt)) p (t, (k, tt)) → Cases F t (pivot_answer F p).code
 pivot_told_call t k p h = rw h (pivot_told F t k)

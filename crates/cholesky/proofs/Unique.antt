@@ -1,20 +1,20 @@
 -- Any two answers within the promise of a public function are equal. Each promise is read from the source, as a caller reads it.
-use Rattle.float.proofs.Words.{sym, ◌∙◌, List, ℕ, Float}
+use Rattle.std.proofs.Common.{Result}
+use Rattle.float.proofs.Words.{refl, sym, ◌∙◌, ap, List, ℕ, Float}
 use contract.Lifetimes.{Lfts}
 use Rattle.float.specs.Width.{F}
 use Rattle.float.specs.OneAnswer.{OneAnswer, OneOutcome}
-use Rattle.float.proofs.OneAnswer.{named, both_named}
-use Rattle.matrix.specs.declared.symmetric.Sym2.{Sym2}
-use Rattle.matrix.specs.declared.symmetric.Sym3.{Sym3}
-use Rattle.cholesky.specs.declared.pivot.Pivot.{Pivot}
-use Rattle.cholesky.specs.declared.pivot.Refusal.{Refusal}
-use Rattle.cholesky.specs.declared.cholesky2x2.Factor2.{Factor2}
-use Rattle.cholesky.specs.declared.cholesky2x2.Solved2.{Solved2}
-use Rattle.cholesky.specs.declared.cholesky3x3.Factor3.{Factor3}
-use Rattle.cholesky.specs.declared.cholesky3x3.Solved3.{Solved3}
-use Rattle.cholesky.proofs.Pivots.{same_pivot}
+use Rattle.float.proofs.OneAnswer.{named}
+use Rattle.matrix.specs.Symmetric.{Sym2, Sym3, sym2, sym3}
+use Rattle.matrix.specs.declared.codes.Refusal.{Refusal}
+use Rattle.matrix.proofs.Refusals.{code_of_one}
+use Rattle.cholesky.specs.Factor.{FactorAnswer}
+use Rattle.cholesky.specs.declared.answers.FactorError.{FactorError}
+use Rattle.cholesky.specs.declared.answers.Solved.{Solved}
+use Rattle.cholesky.proofs.Told.{same_pivot, same_factor, same_solved}
+use Rattle.cholesky.proofs.answers.FactorError.refusal.Reads as error-refusal
+use Rattle.cholesky.proofs.answers.FactorError.pivot.Reads as error-pivot
 use Rattle.cholesky.proofs.pivot.pivot_step.Reads as pivot-step
-use Rattle.cholesky.proofs.pivot.refusal_of.Reads as refusal-of
 use Rattle.cholesky.proofs.cholesky2x2.cholesky_2x2_explicit_factor.Reads as factor2
 use Rattle.cholesky.proofs.cholesky2x2.cholesky_2x2_explicit_solve.Reads as solve2
 use Rattle.cholesky.proofs.cholesky2x2.factor_and_solve.Reads as factor-and-solve2
@@ -22,26 +22,31 @@ use Rattle.cholesky.proofs.cholesky3x3.cholesky_3x3_explicit_factor.Reads as fac
 use Rattle.cholesky.proofs.cholesky3x3.cholesky_3x3_explicit_solve.Reads as solve3
 use Rattle.cholesky.proofs.cholesky3x3.factor_and_solve.Reads as factor-and-solve3
 
-pub one_pivot_step : (t : Float) (k : ℕ) → OneAnswer (λ (p : Pivot). pivot-step.Post tt (t, (k, tt)) p (t, (k, tt)))
+pub one_error_refusal : (e : FactorError) → OneAnswer (λ (r : Refusal). error-refusal.Post tt (e, tt) r (e, tt))
+one_error_refusal e = named _
+
+pub one_error_pivot : (e : FactorError) → OneAnswer (λ (k : ℕ). error-pivot.Post tt (e, tt) k (e, tt))
+one_error_pivot e = named _
+
+pub one_pivot_step : (t : Float) (k : ℕ) → OneAnswer (λ (p : Result Float FactorError). pivot-step.Post tt (t, (k, tt)) p (t, (k, tt)))
 one_pivot_step t k p q a b = same_pivot F p q (a ∙ sym b)
 
-pub one_refusal_of : (p : Pivot) → OneAnswer (λ (r : Refusal). refusal-of.Post tt (p, tt) r (p, tt))
-one_refusal_of p = named _
-
-pub one_factor2 : (l a : Sym2) → OneAnswer (λ (r : Factor2). factor2.Post tt (l, (a, tt)) r (l, (a, tt)))
-one_factor2 l a = named _
+pub one_factor2 : (κs : Lfts 1) (a : _) → OneOutcome (factor2.Post κs a) (λ s. s.0.now)
+one_factor2 κs a r q s t p u = let e = p ∙ sym u in (same_factor r q _ _ e, ap (λ (w : FactorAnswer). sym2 w.factor) e)
 
 pub one_solve2 : (κs : Lfts 2) (a : _) → OneOutcome (solve2.Post κs a) (λ s. s.1.0.now)
-one_solve2 κs a = both_named _ _ (λ s. s.1.0.now)
+one_solve2 κs a r q s t p u = (code_of_one (p.0 ∙ sym u.0), p.1 ∙ sym u.1)
 
-pub one_factor_and_solve2 : (a : Sym2) (b : List Float) → OneAnswer (λ (r : Solved2). factor-and-solve2.Post tt (a, (b, tt)) r (a, (b, tt)))
-one_factor_and_solve2 a b = named _
+pub one_factor_and_solve2 : (a : Sym2) (b : List Float)
+    → OneAnswer (λ (r : Result (Solved Sym2 2) FactorError). factor-and-solve2.Post tt (a, (b, tt)) r (a, (b, tt)))
+one_factor_and_solve2 a b r q p u = same_solved (λ (l : Sym2). l.«data») sym2 (λ l. refl) F 2 r q (p ∙ sym u)
 
-pub one_factor3 : (l a : Sym3) → OneAnswer (λ (r : Factor3). factor3.Post tt (l, (a, tt)) r (l, (a, tt)))
-one_factor3 l a = named _
+pub one_factor3 : (κs : Lfts 1) (a : _) → OneOutcome (factor3.Post κs a) (λ s. s.0.now)
+one_factor3 κs a r q s t p u = let e = p ∙ sym u in (same_factor r q _ _ e, ap (λ (w : FactorAnswer). sym3 w.factor) e)
 
 pub one_solve3 : (κs : Lfts 2) (a : _) → OneOutcome (solve3.Post κs a) (λ s. s.1.0.now)
-one_solve3 κs a = both_named _ _ (λ s. s.1.0.now)
+one_solve3 κs a r q s t p u = (code_of_one (p.0 ∙ sym u.0), p.1 ∙ sym u.1)
 
-pub one_factor_and_solve3 : (a : Sym3) (b : List Float) → OneAnswer (λ (r : Solved3). factor-and-solve3.Post tt (a, (b, tt)) r (a, (b, tt)))
-one_factor_and_solve3 a b = named _
+pub one_factor_and_solve3 : (a : Sym3) (b : List Float)
+    → OneAnswer (λ (r : Result (Solved Sym3 3) FactorError). factor-and-solve3.Post tt (a, (b, tt)) r (a, (b, tt)))
+one_factor_and_solve3 a b r q p u = same_solved (λ (l : Sym3). l.«data») sym3 (λ l. refl) F 3 r q (p ∙ sym u)

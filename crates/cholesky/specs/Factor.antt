@@ -1,31 +1,22 @@
 -- The factor L of a symmetric matrix A = L L', packed as A is, with the writes so far standing where a pivot step answers no root. Definitions only.
-use Rattle.std.specs.Prelude.{List, [], ◌∷◌, ℕ, eqb, Float}
+use Rattle.std.specs.Prelude.{List, [], ◌∷◌, ℕ, eqb, Float, Result}
 use Rattle.std.specs.Float.{Format}
 use Rattle.std.specs.Float.Ieee.{sub, mul, div}
 use Rattle.float.specs.Choice.{pick}
 use Rattle.float.specs.Judged.{judged}
 use Rattle.matrix.specs.Places.{at}
-use Rattle.matrix.specs.Symmetric.{sym2, sym3}
 use Rattle.cholesky.specs.Pivot.{PivotAnswer, pivot_of, has_root}
-use Rattle.cholesky.specs.declared.cholesky2x2.Factor2.{Factor2}
-use Rattle.cholesky.specs.declared.cholesky3x3.Factor3.{Factor3}
+use Rattle.cholesky.specs.Error.{factor_code, factor_pivot}
+use Rattle.cholesky.specs.declared.answers.FactorError.{FactorError}
 
 pub record FactorAnswer : Type 0 where
   pub code : ℕ
   pub pivot : ℕ
   pub factor : List Float
 
-abbrev pub factor2 : FactorAnswer → Factor2
-factor2 r = record { code = r.code; pivot = r.pivot; factor = sym2 r.factor }
-
-abbrev pub factor3 : FactorAnswer → Factor3
-factor3 r = record { code = r.code; pivot = r.pivot; factor = sym3 r.factor }
-
-abbrev pub of_factor2 : Factor2 → FactorAnswer
-of_factor2 r = record { code = r.code; pivot = r.pivot; factor = r.factor.«data» }
-
-abbrev pub of_factor3 : Factor3 → FactorAnswer
-of_factor3 r = record { code = r.code; pivot = r.pivot; factor = r.factor.«data» }
+-- what is told of a call: its code, the number of a refused pivot, and the factor that it left
+abbrev pub factored : Result Unit FactorError → List Float → FactorAnswer
+factored r left = record { code = factor_code r; pivot = factor_pivot r; factor = left }
 
 abbrev pub plain : ℕ → List Float → FactorAnswer
 plain code l = record { code = code; pivot = 0; factor = l }

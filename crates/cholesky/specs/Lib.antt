@@ -1,3 +1,4 @@
+pub mod Error
 pub mod Pivot
 pub mod Factor
 pub mod Solve

@@ -1,15 +1,16 @@
 -- The solution x of L L' x = b by forward and backward substitution. Definitions only.
-use Rattle.std.specs.Prelude.{List, [], ◌∷◌, ◌++◌, ℕ, eqb, Float}
+use Rattle.std.specs.Prelude.{List, [], ◌∷◌, ◌++◌, ℕ, eqb, Float, Result, Ok, Err}
 use Rattle.std.specs.Float.{Format}
 use Rattle.std.specs.Float.Ieee.{sub, mul, div}
 use Rattle.float.specs.Choice.{pick}
 use Rattle.float.specs.Judged.{judged}
 use Rattle.matrix.specs.Answer.{Answer, answer_all, on_first}
 use Rattle.matrix.specs.Places.{zeros, at, triangular}
-use Rattle.matrix.specs.Symmetric.{sym2, sym3}
+use Rattle.matrix.specs.Symmetric.{Sym2, Sym3}
 use Rattle.cholesky.specs.Factor.{FactorAnswer, if_whole, steps2_of, steps3_of}
-use Rattle.cholesky.specs.declared.cholesky2x2.Solved2.{Solved2}
-use Rattle.cholesky.specs.declared.cholesky3x3.Solved3.{Solved3}
+use Rattle.cholesky.specs.Error.{error_code, pivot_number}
+use Rattle.cholesky.specs.declared.answers.FactorError.{FactorError}
+use Rattle.cholesky.specs.declared.answers.Solved.{Solved}
 
 -- ---- L c = b from the first place on, and then L' x = c from the last
 
@@ -48,21 +49,20 @@ pub record SolvedAnswer : Type 0 where
   pub factor : List Float
   pub solution : List Float
 
-abbrev pub solved2 : SolvedAnswer → Solved2
-solved2 r = record { code = r.code; pivot = r.pivot; factor = sym2 r.factor; solution = r.solution }
-
-abbrev pub solved3 : SolvedAnswer → Solved3
-solved3 r = record { code = r.code; pivot = r.pivot; factor = sym3 r.factor; solution = r.solution }
-
-abbrev pub of_solved2 : Solved2 → SolvedAnswer
-of_solved2 r = record { code = r.code; pivot = r.pivot; factor = r.factor.«data»; solution = r.solution }
-
-abbrev pub of_solved3 : Solved3 → SolvedAnswer
-of_solved3 r = record { code = r.code; pivot = r.pivot; factor = r.factor.«data»; solution = r.solution }
-
 -- of size n; with 6 and 9 the pivot's number, and else 0
 abbrev pub refused_solved : Format → ℕ → ℕ → ℕ → SolvedAnswer
 refused_solved f n pivot code = record { code = code; pivot = pivot; factor = zeros f (triangular n); solution = zeros f n }
+
+-- what is told of a call of size n, whose factor has the numbers that `numbers` reads
+abbrev pub solved_answer : {M : Type 0} → (M → List Float) → Format → (n : ℕ) → Result (Solved M n) FactorError → SolvedAnswer
+solved_answer numbers f n (Ok x) = record { code = 0; pivot = 0; factor = numbers x.factor; solution = x.solution }
+solved_answer numbers f n (Err e) = refused_solved f n (pivot_number e) (error_code e)
+
+abbrev pub solved2_answer : Format → Result (Solved Sym2 2) FactorError → SolvedAnswer
+solved2_answer f r = solved_answer (λ (l : Sym2). l.«data») f 2 r
+
+abbrev pub solved3_answer : Format → Result (Solved Sym3 3) FactorError → SolvedAnswer
+solved3_answer f r = solved_answer (λ (l : Sym3). l.«data») f 3 r
 
 -- the steps r with the solution x that they give, or the refusal of steps that stopped
 abbrev pub with_solution : Format → ℕ → FactorAnswer → List Float → SolvedAnswer
@@ -73,6 +73,10 @@ judged_solved f n r x = judged (refused_solved f n 0) 7 (if_whole r (r.factor ++
 
 abbrev pub factor_and_solve_of : Format → ℕ → List Float → List Float → FactorAnswer → List Float → SolvedAnswer
 factor_and_solve_of f n a b r x = judged (refused_solved f n 0) 5 (a ++ b) (judged_solved f n r x)
+
+-- by steps and a substitution of any size
+abbrev pub solved_by : Format → ℕ → (List Float → List Float → FactorAnswer) → (List Float → List Float → List Float) → List Float → List Float → SolvedAnswer
+solved_by f n steps solution a b = let r = steps (zeros f (triangular n)) a in factor_and_solve_of f n a b r (solution r.factor b)
 
 unfoldable pub factor_and_solve2_of : Format → List Float → List Float → SolvedAnswer
 factor_and_solve2_of f a b = let r = steps2_of f (zeros f 3) a in factor_and_solve_of f 2 a b r (solution2_of f r.factor b)

@@ -1,8 +1,8 @@
 -- A file is counted record by record: the tally of the first i records with the next one's is that of the first i + 1, and the bytes left over have none.
-use Rattle.float.proofs.Words.{◌≡◌, refl, sym, ap, ◌∙◌, subst, Bool, true, false, List, [], ℕ, ◌+◌, ◌*◌, ◌≤◌, ◌<◌, mul-suc, mul_comm, arith, add-one}
-use Rattle.float.proofs.Words.{div-eq_of_lt, mod-lt, mod-eq_of_lt, div-mul-le_self, div-add-mod', length, take, drop, length-take, length-take-le, length-drop}
-use Rattle.float.proofs.Words.{take-append-drop, Format}
-use Rattle.float.proofs.Words.{binary32, binary64}
+use Rattle.float.proofs.Words.{◌≡◌, refl, sym, ap, ◌∙◌, subst, Bool, true, false, List, [], ℕ, ◌+◌, ◌*◌, ◌≤◌, ◌<◌, mul-suc, mul_comm, mul-zero, add_comm}
+use Rattle.float.proofs.Words.{arith, add-one, div-eq_of_lt, mod-lt, mod-eq_of_lt, div-mul-le_self, div-add-mod', length, get_or, take, drop, drop-drop}
+use Rattle.float.proofs.Words.{length-take, length-take-le, length-drop, take-append-drop, zero, suc, Format, binary32, binary64}
+use Rattle.std.specs.Simd.{first_chunks}
 use lib.Seq.{take-add}
 use Rattle.record.specs.Layout.{answer_size}
 use Rattle.record.specs.Stream.{answer_of}
@@ -13,6 +13,12 @@ use Rattle.counts.specs.Adding.{Summed, only, head_tally}
 use Rattle.counts.proofs.Sums.{then_summed, stays_past}
 use Rattle.counts.proofs.Placed.{head_tally_lem}
 use Rattle.counts.proofs.Cut.{cut}
+
+-- chunk i of a list cut into chunks of n
+pub chunk_at : (n k : ℕ) (s : List ℕ) (i : ℕ) (d : List ℕ) → i < k → get_or (first_chunks n k s) i d ≡ take n (drop (n * i) s)
+chunk_at n zero s i d h = absurd (omega arith)
+chunk_at n (suc k) s zero d h = rw (mul-zero n)
+chunk_at n (suc k) s (suc i) d h = chunk_at n k (drop n s) i d (omega arith) ∙ (rw (drop-drop, mul-suc n i, add_comm (n * i) n))
 
 pub tally_length : (f : Format) (s : List ℕ) → length (tally_of f s) ≡ tally_size
 unfolding tally_of
@@ -58,6 +64,10 @@ module _ (f : Format) (s : List ℕ) where
 
   -- ---- an adding, record by record
 
+  -- record i, as the chunks of a slice have it
+  pub record_in : (k i : ℕ) (d : List ℕ) → i < k → get_or (first_chunks (answer_size f) k s) i d ≡ answer_of f i s
+  record_in k i d h = chunk_at (answer_size f) k s i d h
+
   module _ (xs : List ℕ) (room : length xs ≡ tally_size) where
     pub file_more : (i : ℕ) (ys zs : List ℕ) (b : Bool) → answer_size f * i + answer_size f ≤ length s
         → Summed xs (tally_of f (take (answer_size f * i) s)) true ys
@@ -77,10 +87,8 @@ module _ (f : Format) (s : List ℕ) where
         (stays_past xs (tally_of f front) (tally_of f rest) zs b (tally_length f front ∙ sym room) (tally_length f rest ∙ sym room) t p)
 
     pub file_ends : (ys zs : List ℕ) (b : Bool) → Summed xs (tally_of f (take (answer_size f * records_of f s) s)) true ys
-        → Summed ys (only (length ys) left_at (left_over f s)) b zs
+        → Summed ys (only tally_size left_at (left_over f s)) b zs
         → Summed xs (tally_of f s) b zs
     file_ends ys zs b p q =
-        let e : only (length ys) left_at (left_over f s) ≡ only tally_size left_at (left_over f s) = rw (p.1 ∙ room) in
         subst (λ (u : List ℕ). Summed xs u b zs) left_more
-        (then_summed xs (tally_of f (take (answer_size f * records_of f s) s)) (only tally_size left_at (left_over f s)) ys zs true b refl p
-        (subst (λ (u : List ℕ). Summed ys u b zs) e q))
+        (then_summed xs (tally_of f (take (answer_size f * records_of f s) s)) (only tally_size left_at (left_over f s)) ys zs true b refl p q)

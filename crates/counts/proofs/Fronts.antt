@@ -1,5 +1,5 @@
 -- The first i counts of a tally with zeros behind them, and zeros with the other counts behind: together they are the tally.
-use Rattle.float.proofs.Words.{◌≡◌, refl, sym, ap, ◌∙◌, subst, Bool, true, false, List, [], ◌∷◌, ℕ, zero, suc, ◌<◌, add-zero, zero-add, arith, length, get_or}
+use Rattle.float.proofs.Words.{◌≡◌, refl, ap, ◌∙◌, subst, Bool, true, false, List, [], ◌∷◌, ℕ, zero, suc, ◌<◌, add-zero, zero-add, arith, length, get_or}
 use Rattle.float.proofs.Words.{replicate, le_of_suc-le-suc}
 use lib.ListN.{length-replicate}
 use Rattle.counts.specs.Tally.{plus_of}
@@ -48,11 +48,11 @@ front_more (suc i) (x ∷ xs) h = rw (add-zero x, front_more i xs (le_of_suc-le-
 -- ---- an adding, count by count
 
 module _ (xs ms : List ℕ) (n : length ms ≡ length xs) (i : ℕ) where
-  pub count_more : (ys zs : List ℕ) (b : Bool) → i < length ms → Summed xs (front i ms) true ys → Summed ys (only (length ys) i (get_or ms i 0)) b zs
+  pub count_more : (ys zs : List ℕ) (b : Bool) → i < length ms → Summed xs (front i ms) true ys → Summed ys (only (length ms) i (get_or ms i 0)) b zs
       → Summed xs (front (suc i) ms) b zs
   count_more ys zs b h p q =
-      let e : plus_of (front i ms) (only (length ys) i (get_or ms i 0)) ≡ front (suc i) ms = rw (p.1 ∙ sym n) (front_more i ms h) in
-      subst (λ (u : List ℕ). Summed xs u b zs) e (then_summed xs (front i ms) (only (length ys) i (get_or ms i 0)) ys zs true b refl p q)
+      subst (λ (u : List ℕ). Summed xs u b zs) (front_more i ms h)
+      (then_summed xs (front i ms) (only (length ms) i (get_or ms i 0)) ys zs true b refl p q)
 
   -- a count that does not fit
   pub count_past : (zs : List ℕ) (b : Bool) → b ≡ false → Summed xs (front i ms) b zs → Summed xs ms false zs

@@ -3,7 +3,6 @@ pub mod Sums
 pub mod ByCell
 pub mod Listed
 pub mod Placed
-pub mod EachRow
 pub mod Steps
 pub mod Cut
 pub mod Files
@@ -11,5 +10,6 @@ pub mod Fronts
 pub mod Ends
 pub mod Added
 pub mod Codes
+pub mod Told
 pub mod Unique
 pub mod AddedUp

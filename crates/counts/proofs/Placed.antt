@@ -1,23 +1,22 @@
 -- A record is counted in the cells of its head and in no other, so its tally has a 1 in each of these, and they are inside the tally.
-use Rattle.float.proofs.Words.{◌≡◌, refl, sym, ap, ◌∙◌, Bool, true, false, not, ◌&&◌, List, [], ◌∷◌, ◌++◌, map, ℕ, suc, ◌+◌, ◌/◌, ◌%◌, ◌<◌, ◌≤◌, arith}
+use Rattle.float.proofs.Words.{◌≡◌, refl, sym, ap, ◌∙◌, Bool, true, false, not, ◌&&◌, List, [], ◌∷◌, ◌++◌, map, ℕ, suc, ◌+◌, ◌/◌, ◌%◌, ◌≤◌, arith}
 use Rattle.float.proofs.Words.{mul-zero, zero-add, eqb, leb, length, take_all, Format, false≢true, eq-eqb, ne_eqb, not-false}
 use Rattle.float.proofs.Words.{leb-true}
 use mathlib.Core.Bool.{and-false}
 use native.Mathlib.Nat.{div_self, mod_self}
 use Rattle.float.proofs.Choice.{neither, by_test, whether}
 use Rattle.float.proofs.Finite.{both_true}
-use Rattle.kinds.specs.Table.{kind_numbered, known_kind}
-use Rattle.kinds.specs.declared.table.Kind.{Kind}
+use Rattle.kinds.specs.Table.{Kind, kind_numbered, known_kind}
 use Rattle.kinds.proofs.Rows.{each_kind}
 use Rattle.record.specs.Layout.{answer_size}
 use Rattle.record.specs.Stream.{answer_of}
 use Rattle.counts.specs.Known.{head_of, codes, marks, most_turns, most_turns_of, among, known_answer, foreign_of}
-use Rattle.counts.specs.Cells.{Cell, coded, marked, turned, foreign, row_of, counted_in, up_to, row_numbers, turning, cells, place_of, tally_size, foreign_at}
+use Rattle.counts.specs.Cells.{Cell, coded, marked, turned, foreign, row_of, counted_in, up_to, row_numbers, turning, cells, tally_size, foreign_at}
 use Rattle.counts.specs.Tally.{one, counted_of, records_of, tally_of, plus_of}
 use Rattle.counts.specs.Adding.{only, one_in, head_tally, mark_parts, head_parts}
 use Rattle.counts.specs.declared.known.Head.{Head}
 use Rattle.counts.proofs.ByCell.{every, up_to_lem, map_same, map_each, plus_mapped}
-use Rattle.counts.proofs.Listed.{same, Listed, listed_below, coded_listed, marked-listed, turned_listed, by_cell, one_in_lem}
+use Rattle.counts.proofs.Listed.{same, Listed, coded_listed, marked-listed, turned_listed, by_cell, one_in_lem}
 
 -- ---- the rows of the kinds
 
@@ -89,17 +88,6 @@ module _ (h : Head) where
 
   turn_listed : known_answer h ≡ true → (kind_numbered h.kind).counts ≡ true → Listed turn_cell
   turn_listed k c = turned_listed (row_of h) h.turns (row-turning h.kind ∙ c) (turns_known k c)
-
-  -- ---- their places are inside
-
-  pub code_inside : foreign_of h ≡ false → place_of code_cell < tally_size
-  code_inside e = omega (arith, listed_below code_cell (code_listed e))
-
-  pub mark_inside : known_answer h ≡ true → place_of mark_cell < tally_size
-  mark_inside k = omega (arith, listed_below mark_cell (mark_listed k))
-
-  pub turns_inside : known_answer h ≡ true → (kind_numbered h.kind).counts ≡ true → place_of turn_cell < tally_size
-  turns_inside k c = omega (arith, listed_below turn_cell (turn_listed k c))
 
   -- ---- a record is counted in its cells, and in no other
 

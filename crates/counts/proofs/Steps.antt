@@ -1,5 +1,5 @@
 -- A record is counted cell by cell, and each adding goes on from the one before: the first that does not fit ends it.
-use Rattle.float.proofs.Words.{◌≡◌, sym, ◌∙◌, subst, Bool, true, false, List, ℕ, eqb, length, eq-eqb, eqb-true}
+use Rattle.float.proofs.Words.{◌≡◌, sym, ap, ◌∙◌, subst, Bool, true, false, List, ℕ, eqb, length, eq-eqb, eqb-true}
 use Rattle.float.proofs.Choice.{by_test, taken}
 use Rattle.kinds.specs.Table.{kind_numbered}
 use Rattle.counts.specs.Known.{foreign_of}
@@ -10,11 +10,10 @@ use Rattle.counts.specs.declared.known.Head.{Head}
 use Rattle.counts.proofs.Sums.{then_summed, stays_past, only-length, plus_length}
 use Rattle.counts.proofs.Placed.{head_parts_lem}
 
-pub at_cell : (xs ys : List ℕ) (at : ℕ) (c : Cell) (b : Bool) → length xs ≡ tally_size → at ≡ place_of c → Summed xs (only (length xs) at 1) b ys
-    → Summed xs (one_in c) b ys
-at_cell xs ys at c b n e p =
-    let w : only (length xs) at 1 ≡ one_in c = rw (n, e) in
-    subst (λ (u : List ℕ). Summed xs u b ys) w p
+-- a place that a row has, in the row of a head
+pub at_cell : (xs ys : List ℕ) (cell : ℕ → Cell) (at row : ℕ) (h : Head) (b : Bool) → at ≡ place_of (cell row) → row ≡ row_of h
+    → Summed xs (only tally_size at 1) b ys → Summed xs (one_in (cell (row_of h))) b ys
+at_cell xs ys cell at row h b e r = subst (λ (u : ℕ). Summed xs (only tally_size u 1) b ys) (e ∙ ap (λ (k : ℕ). place_of (cell k)) r)
 
 one_length : (xs : List ℕ) (c : Cell) → length xs ≡ tally_size → length (one_in c) ≡ length xs
 one_length xs c n = only-length tally_size (place_of c) 1 ∙ sym n
@@ -30,10 +29,6 @@ mark_stops xs ys h b n t p =
     (λ e. stays_past xs m u ys b (one_length xs (marked (row_of h) h.mark) n) (one_length xs (turned (row_of h) h.turns) n) t p)
     (λ e. subst (λ (s : Bool). Summed xs m s ys) t p)
 
-pub mark_ends : (xs ys : List ℕ) (h : Head) (b : Bool) → (kind_numbered h.kind).counts ≡ false → b ≡ true
-    → Summed xs (one_in (marked (row_of h) h.mark)) b ys → Summed xs (mark_parts h) true ys
-mark_ends xs ys h b e t p = rw e (subst (λ (s : Bool). Summed xs (one_in (marked (row_of h) h.mark)) s ys) t p)
-
 pub mark_goes : (xs ys zs : List ℕ) (h : Head) (b c : Bool) → (kind_numbered h.kind).counts ≡ true → b ≡ true
     → Summed xs (one_in (marked (row_of h) h.mark)) b ys → Summed ys (one_in (turned (row_of h) h.turns)) c zs → Summed xs (mark_parts h) c zs
 mark_goes xs ys zs h b c e t p q =
@@ -44,10 +39,10 @@ mark_goes xs ys zs h b c e t p q =
 by_parts : (xs ys : List ℕ) (h : Head) (b : Bool) → Summed xs (head_parts h) b ys → Summed xs (head_tally h) b ys
 by_parts xs ys h b p = subst (λ (w : List ℕ). Summed xs w b ys) (sym (head_parts_lem h)) p
 
-pub head_foreign : (xs ys : List ℕ) (h : Head) (b : Bool) → length xs ≡ tally_size → foreign_of h ≡ true → Summed xs (only (length xs) foreign_at 1) b ys
+pub head_foreign : (xs ys : List ℕ) (h : Head) (b : Bool) → foreign_of h ≡ true → Summed xs (only tally_size foreign_at 1) b ys
     → Summed xs (head_tally h) b ys
-head_foreign xs ys h b n e p =
-    let w : only (length xs) foreign_at 1 ≡ head_parts h = rw (n, e) in
+head_foreign xs ys h b e p =
+    let w : only tally_size foreign_at 1 ≡ head_parts h = rw e in
     by_parts xs ys h b (subst (λ (u : List ℕ). Summed xs u b ys) w p)
 
 mark_length : (xs : List ℕ) (h : Head) → length xs ≡ tally_size → length (mark_parts h) ≡ length xs

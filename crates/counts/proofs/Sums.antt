@@ -1,10 +1,12 @@
 -- Tallies are added place by place, so a sum keeps the laws of numbers; and counts only grow, so what has passed 64 bits stays past them.
 use Rattle.float.proofs.Words.{◌≡◌, refl, sym, ap, ◌∙◌, Bool, true, false, false≢true, List, [], ◌∷◌, ℕ, zero, suc, ◌+◌, ◌^◌, ◌<◌, add_comm, add_assoc}
-use Rattle.float.proofs.Words.{add-zero, le_of_suc-le-suc, arith, ltb, ltb-true, lt-ltb, length, length-set, get_or, set, replicate}
+use Rattle.float.proofs.Words.{add-zero, le_of_suc-le-suc, arith, ltb, ltb-true, lt-ltb, le-ltb, length, length-set, get_or, set, replicate}
 use Rattle.float.proofs.Words.{subst, subst⁻¹, true≢false, and-true}
 use lib.ListN.{length-replicate}
 use Rattle.float.proofs.Choice.{so_or_not}
 use Rattle.float.proofs.Finite.{both_true}
+use Rattle.std.specs.Prelude.{Result, Ok, Err, is_ok, is_err}
+use Rattle.counts.specs.Cells.{tally_size}
 use Rattle.counts.specs.Tally.{plus_of, all_fit}
 use Rattle.counts.specs.Adding.{Summed, only}
 
@@ -102,7 +104,30 @@ only_fits (x ∷ xs) (suc at) n h e =
     let b = both_true (ltb x (2 ^ 64)) (all_fit xs) e in
     rw (add-zero x, b.0) (only_fits xs at n (le_of_suc-le-suc h) b.1)
 
+-- the test of the one count that grows
+module _ (xs : List ℕ) (at n : ℕ) (room : length xs ≡ tally_size) (below : at < tally_size) (each : (i : ℕ) → get_or xs i 0 < 2 ^ 64) where
+  one_fits : all_fit (plus_of xs (only tally_size at n)) ≡ ltb (get_or xs at 0 + n) (2 ^ 64)
+  one_fits =
+      subst (λ (k : ℕ). all_fit (plus_of xs (only k at n)) ≡ ltb (get_or xs at 0 + n) (2 ^ 64)) room
+      (only_fits xs at n (omega arith) (fits_each xs each))
+
+  pub count_fits : get_or xs at 0 + n < 2 ^ 64 → Summed xs (only tally_size at n) true (set xs at (get_or xs at 0 + n))
+  count_fits h = (
+    sym (one_fits ∙ lt-ltb _ (2 ^ 64) h),
+    length-set xs at _,
+    λ e.
+        subst (λ (k : ℕ). set xs at (get_or xs at 0 + n) ≡ plus_of xs (only k at n)) room (set_plus xs at n (omega arith)),
+  )
+
+  pub count_passes : (get_or xs at 0 + n < 2 ^ 64 → ⊥) → Summed xs (only tally_size at n) false xs
+  count_passes h = (sym (one_fits ∙ le-ltb _ (2 ^ 64) (omega arith)), refl, λ e. absurd (false≢true e))
+
 -- ---- one adding after another
+
+-- what a `?` hands on is no answer
+pub handed_on : {T E : Type 0} (r : Result T E) → is_err r ≡ true → is_ok r ≡ false
+handed_on (Ok x) e = absurd (false≢true e)
+handed_on (Err x) e = refl
 
 -- nothing is added yet
 pub none_summed : (xs : List ℕ) (n : ℕ) → length xs ≡ n → ((i : ℕ) → get_or xs i 0 < 2 ^ 64) → Summed xs (replicate n 0) true xs

@@ -1,11 +1,15 @@
 -- What the steps of an adding owe to each other. Definitions only.
-use Rattle.std.specs.Prelude.{◌≡◌, Bool, true, List, [], ◌∷◌, ◌++◌, map, ℕ, eqb, length, set, replicate}
+use Rattle.std.specs.Prelude.{◌≡◌, Bool, true, Option, Some, None, List, [], ◌∷◌, ◌++◌, map, ℕ, eqb, length, set, replicate}
 use Rattle.float.specs.Choice.{pick}
 use Rattle.kinds.specs.Table.{kind_numbered}
-use Rattle.counts.specs.Known.{foreign_of}
-use Rattle.counts.specs.Cells.{Cell, coded, marked, turned, row_of, counted_in, cells, foreign_at, tally_size, place_of}
+use Rattle.counts.specs.Known.{among, foreign_of}
+use Rattle.counts.specs.Cells.{Cell, coded, marked, turned, row_of, counted_in, cells, foreign_at, tally_size, place_in, place_of}
 use Rattle.counts.specs.Tally.{one, plus_of, all_fit, Tally}
 use Rattle.counts.specs.declared.known.Head.{Head}
+
+-- the place of a number in a list, if it has one there
+abbrev pub found_in : ℕ → List ℕ → Option ℕ
+found_in n ms = pick (among n ms) (Some (place_in n ms)) None
 
 -- `more` more at every place, where all fit; else some counts, as many as there were
 abbrev pub Summed : List ℕ → List ℕ → Bool → List ℕ → Type 0

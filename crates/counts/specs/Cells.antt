@@ -2,8 +2,7 @@
 -- rotations, and the foreign records. Definitions only.
 use Rattle.std.specs.Prelude.{Bool, not, ◌&&◌, List, [], ◌∷◌, ◌++◌, map, ℕ, zero, suc, ◌+◌, ◌*◌, eqb, length}
 use Rattle.float.specs.Choice.{pick}
-use Rattle.kinds.specs.Table.{kinds, kind_numbered}
-use Rattle.kinds.specs.declared.table.Kind.{Kind}
+use Rattle.kinds.specs.Table.{Kind, kinds, kind_numbered}
 use Rattle.counts.specs.Known.{codes, marks, most_turns, foreign_of}
 use Rattle.counts.specs.declared.known.Head.{Head}
 

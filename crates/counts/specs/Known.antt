@@ -2,8 +2,7 @@
 -- codes and marks an answer file can have; which kinds, and which of them count rotations, the table of kinds says. Definitions only.
 use Rattle.std.specs.Prelude.{Bool, false, not, ◌&&◌, ◌||◌, List, [], ◌∷◌, ℕ, eqb, leb, get_or}
 use Rattle.float.specs.Choice.{pick}
-use Rattle.kinds.specs.Table.{kind_numbered, known_kind}
-use Rattle.kinds.specs.declared.table.Kind.{Kind}
+use Rattle.kinds.specs.Table.{Kind, kind_numbered, known_kind}
 use Rattle.record.specs.Layout.{kind_at, code_at, count_at, mark_at}
 use Rattle.counts.specs.declared.known.Head.{Head}
 

@@ -1,16 +1,14 @@
 // The head of an answer, and which heads are known. A record with any other head is foreign.
-ghost use Rattle.std.specs.Prelude.{◌≡◌, ◌+◌, ◌≤◌, length};
-ghost use Rattle.float.specs.Width.{F};
-ghost use Rattle.wire.specs.Bytes.{part};
-ghost use Rattle.record.specs.Layout.{answer_size};
+ghost use Rattle.std.specs.Prelude.{◌≡◌};
 ghost use Rattle.counts.specs.Known.{head_of, codes, marks, known_answer, foreign_of};
-ghost use Rattle.counts.specs.Cells.{place_in};
+ghost use Rattle.counts.specs.Adding.{found_in};
 
-use kinds::table::kind_numbered;
+use crate::cells::row_of;
 use matrix::codes::DONE;
-use record::layout::{CODE_AT, COUNT_AT, KIND_AT, MARK_AT};
+use record::layout::{ANSWER_SIZE, CODE_AT, COUNT_AT, KIND_AT, MARK_AT};
 
-// The bytes of an answer's head that are counted. `turns` are the rotations, where the code is 0.
+// The bytes of an answer's head that are counted. `turns` are the rotations, where the code is 0. They are bytes as they came: any may stand in a file, and a
+// record whose bytes are not known is counted too.
 #[derive(Clone, Copy)]
 pub struct Head {
     pub kind: u8,
@@ -19,16 +17,16 @@ pub struct Head {
     pub mark: u8,
 }
 
-// The head of the answer at byte `at`.
-pub(crate) fn head_at(s: &[u8], at: usize) -> Head
-    requires { at + answer_size F ≤ length s.now }
-    ensures { result ≡ head_of (part at (answer_size F) s.now) }
-{
-    Head {
-        kind: s[at + KIND_AT],
-        code: s[at + CODE_AT],
-        turns: s[at + COUNT_AT],
-        mark: s[at + MARK_AT],
+impl From<&[u8; ANSWER_SIZE]> for Head {
+    ghost from_gives = { λ answer h. h ≡ head_of answer.now };
+
+    fn from(answer: &[u8; ANSWER_SIZE]) -> Head {
+        Head {
+            kind: answer[KIND_AT],
+            code: answer[CODE_AT],
+            turns: answer[COUNT_AT],
+            mark: answer[MARK_AT],
+        }
     }
 }
 
@@ -39,31 +37,31 @@ pub const MARKS: usize = 2;
 
 pub const MOST_TURNS: u8 = 25;
 
-// The place of a code among those that are known; CODES for one that is not.
-pub(crate) fn code_place(code: u8) -> usize
-    ensures { result ≡ place_in code codes }
+// The place of a code among those that are known. A match is a table: a search would jump at each code, and a processor guesses these wrong.
+pub(crate) fn code_place(code: u8) -> Option<usize>
+    ensures { result ≡ found_in code codes }
 {
     match code {
-        0 => 0,
-        1 => 1,
-        3 => 2,
-        4 => 3,
-        5 => 4,
-        6 => 5,
-        7 => 6,
-        9 => 7,
-        _ => CODES,
+        0 => Some(0),
+        1 => Some(1),
+        3 => Some(2),
+        4 => Some(3),
+        5 => Some(4),
+        6 => Some(5),
+        7 => Some(6),
+        9 => Some(7),
+        _ => None,
     }
 }
 
-// The place of a mark, settled before unsettled; MARKS for one that is not known.
-pub(crate) fn mark_place(mark: u8) -> usize
-    ensures { result ≡ place_in mark marks }
+// The place of a mark, settled before unsettled.
+pub(crate) fn mark_place(mark: u8) -> Option<usize>
+    ensures { result ≡ found_in mark marks }
 {
     match mark {
-        1 => 0,
-        0 => 1,
-        _ => MARKS,
+        1 => Some(0),
+        0 => Some(1),
+        _ => None,
     }
 }
 
@@ -71,11 +69,8 @@ pub(crate) fn mark_place(mark: u8) -> usize
 fn known_answer(h: Head) -> bool
     ensures { result ≡ known_answer h }
 {
-    let k = kind_numbered(h.kind);
-    if k.number == 0 {
-        return false;
-    }
-    if mark_place(h.mark) == MARKS {
+    let k = row_of(h.kind);
+    if k.number == 0 || mark_place(h.mark).is_none() {
         return false;
     }
     if k.counts {
@@ -90,5 +85,5 @@ pub fn is_foreign(h: Head) -> bool
     if h.code == DONE {
         return !known_answer(h);
     }
-    code_place(h.code) == CODES
+    code_place(h.code).is_none()
 }

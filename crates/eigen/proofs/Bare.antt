@@ -1,23 +1,28 @@
 -- Without vectors the same is worked out: neither a state's matrix nor what the run made looks at the vectors, nor does the order of the values.
+use Rattle.std.specs.Prelude.{Result}
 use Rattle.float.proofs.Words.{◌≡◌, refl, sym, ap, ◌∙◌, Bool, true, false, List, ◌⊎◌, inl, inr, ⊎_elim, ℕ, Float, Format}
 use Rattle.float.specs.Width.{F}
 use Rattle.float.specs.Sign.{all_finite}
 use Rattle.float.specs.Judged.{judged, judged_call}
 use Rattle.float.proofs.Finite.{append_passes, append_fails}
+use Rattle.matrix.specs.Codes.{told, code_of}
 use Rattle.matrix.specs.Square.{exchange_of}
-use Rattle.matrix.specs.declared.symmetric.Sym3.{Sym3}
+use Rattle.matrix.specs.declared.codes.Refusal.{Refusal}
+use Rattle.matrix.specs.Symmetric.{Sym3}
 use Rattle.jacobi.specs.Order.{ascending}
 use Rattle.jacobi.specs.Blind.{Watched, sighted}
 use Rattle.jacobi.proofs.Run.{keeps}
 use Rattle.jacobi.proofs.Placed.{values_alone}
-use Rattle.eigen.specs.Eigen3x3.{State, settled_of, step_of, run_of, start_of, last_of, watched_of, diagonal, ranked_of, answer_of, end_of}
+use Rattle.eigen.specs.Eigen3x3.{State, settled_of, step_of, run_of, start_of, last_of, watched_of, diagonal, ranked_of, refused_eigen}
+use Rattle.eigen.specs.Eigen3x3.{EigenAnswer, whole_eigen, answer_of, end_of}
 use Rattle.eigen.specs.EigVals.{BareState, bare_step_of, bare_run_of, bare_watched_of, alone, nothing_swapped, sort3_of, refused_values, bare_end_of}
-use Rattle.eigen.specs.EigVals.{eigvals_of}
+use Rattle.eigen.specs.EigVals.{EigValsAnswer, whole_eig_vals, eigvals_of}
 use Rattle.eigen.specs.Ordered.{diagonal_axes}
 use Rattle.eigen.specs.Bare.{without_vectors, VectorsLost, SameButVectors}
 use Rattle.eigen.specs.declared.eigen3x3.Eigen3.{Eigen3}
 use Rattle.eigen.specs.declared.eigen3x3.EigVals3.{EigVals3}
 use Rattle.eigen.proofs.Rounds.{full_step, full_done, bare_step, bare_done}
+use Rattle.eigen.proofs.Told.{code_told, values_code_told}
 use Rattle.eigen.proofs.Watched.{ended_of, watched_ends, by_last}
 use Rattle.eigen.proofs.eigen3x3.eigen_jacobi.Reads as eigen-jacobi
 use Rattle.eigen.proofs.eigen3x3.eigvals_jacobi.Reads as eigvals-jacobi
@@ -73,9 +78,12 @@ module _ (f : Format) (a : List Float) where
 
 -- ---- the calls: any two answers within the promises that the source states
 
-pub same_calls : (a : Sym3) (r : Eigen3) (q : EigVals3) → eigen-jacobi.Post tt (a, tt) r (a, tt) → eigvals-jacobi.Post tt (a, tt) q (a, tt)
-    → (without_vectors r ≡ q) ⊎ (VectorsLost F a.«data» × (r.code ≡ 7) × (q.code ≡ 0))
+pub same_calls : (a : Sym3) (r : Result Eigen3 Refusal) (q : Result EigVals3 Refusal)
+    → eigen-jacobi.Post tt (a, tt) r (a, tt) → eigvals-jacobi.Post tt (a, tt) q (a, tt)
+    → (without_vectors (told (refused_eigen F) whole_eigen r) ≡ told (refused_values F) whole_eig_vals q)
+    ⊎ (VectorsLost F a.«data» × (code_of r ≡ 7) × (code_of q ≡ 0))
 same_calls a r q p s =
     rw (p, s)
-    (⊎_elim (λ e. inl e) (λ l. inr (l.0, ap (λ (r : Eigen3). r.code) l.1, ap (λ (q : EigVals3). q.code) l.2))
+    (⊎_elim (λ e. inl e)
+    (λ l. inr (l.0, code_told r ∙ ap (λ (r : EigenAnswer). r.code) (p ∙ l.1), values_code_told q ∙ ap (λ (q : EigValsAnswer). q.code) (s ∙ l.2)))
     (same_but_vectors F a.«data»))

@@ -1,16 +1,18 @@
 -- Count and mark are those of the definition's states: each step raises the count by one, and the mark is the test of the last state and of every step to it.
+use Rattle.std.specs.Prelude.{Ok}
 use Rattle.float.proofs.Words.{◌≡◌, refl, sym, ap, ◌∙◌, subst₂, Bool, true, false, List, ◌⊎◌, ℕ, ◌≤◌, ◌<◌, Float, Format}
 use Rattle.float.specs.Width.{F}
 use Rattle.float.specs.Exactly.{Exactly}
-use Rattle.matrix.specs.declared.symmetric.Sym3.{Sym3}
+use Rattle.matrix.specs.Symmetric.{Sym3}
 use Rattle.jacobi.specs.Blind.{sighted}
 use Rattle.jacobi.specs.declared.made.Made.{Made}
 use Rattle.jacobi.proofs.Run.{ran_one, ran_counted}
 use Rattle.jacobi.proofs.Watched.{watched_blind, mark_means}
 use Rattle.eigen.specs.Pairs.{blind_at}
-use Rattle.eigen.specs.Eigen3x3.{State, settled_of, step_of, run_of, start_of, last_of, watched_of, watched_last_of, eigen_of}
+use Rattle.eigen.specs.Eigen3x3.{State, settled_of, step_of, run_of, start_of, last_of, watched_of, watched_last_of, eigen_of, EigenAnswer}
 use Rattle.eigen.specs.Counted.{RanFor, state_after, NoneBlindIn, Counted}
 use Rattle.eigen.specs.declared.eigen3x3.Eigen3.{Eigen3}
+use Rattle.eigen.proofs.Told.{handed_out}
 use Rattle.eigen.proofs.Answered.{answered}
 use Rattle.eigen.proofs.eigen3x3.eigen_jacobi.Reads as eigen-jacobi
 
@@ -30,8 +32,9 @@ counted f a e =
     rw (answered f a e).answer
     (record { last = refl; mark = mark_means (watched_last_of f a).blind _ ((λ e. e), (λ e. e)) (blind_counted f a); ran = states_counted f a })
 
-pub counted_call : (a : Sym3) (r : Eigen3) → eigen-jacobi.Post tt (a, tt) r (a, tt) → r.code ≡ 0 → Counted F a.«data» r.made r.settled
-counted_call a r p e = rw p (counted F a.«data» (sym (ap (λ (r : Eigen3). r.code) p) ∙ e))
+pub counted_call : (a : Sym3) (x : Eigen3) → eigen-jacobi.Post tt (a, tt) (Ok x) (a, tt) → Counted F a.«data» x.made x.settled
+counted_call a x p =
+    handed_out (λ (r : EigenAnswer). r.code) (λ (r : EigenAnswer). Counted F a.«data» r.made r.settled) p refl (counted F a.«data»)
 
 -- only one number is the count: that of the steps to the first settled state, or 25 where none is; and the mark is that of those states
 pub count_told : (f : Format) (a : List Float) (made : Made) (settled : Bool) → Counted f a made settled

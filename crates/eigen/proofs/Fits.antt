@@ -12,12 +12,10 @@ use Rattle.jacobi.proofs.Run.{run_keeps}
 use Rattle.jacobi.proofs.Moves.{each}
 use Rattle.jacobi.proofs.Sorted.{below3}
 use Rattle.eigen.specs.Pairs.{pair_of, chosen_of, applied_of}
-use Rattle.eigen.specs.Eigen2x2.{solved2, blind2_of, refused2, numbers2_of, answer2_of, end2_of, eigen2_of}
-use Rattle.eigen.specs.Eigen3x3.{State, settled_of, next_matrix, step_of, run_of, start_of, last_of, watched_last_of, diagonal, ranked_of}
+use Rattle.eigen.specs.Eigen2x2.{solved2, blind2_of, refused2, numbers2_of, answer2_of, end2_of, eigen2_of, Eigen2Answer}
+use Rattle.eigen.specs.Eigen3x3.{State, settled_of, next_matrix, step_of, run_of, start_of, last_of, watched_last_of, diagonal, ranked_of, EigenAnswer}
 use Rattle.eigen.specs.Eigen3x3.{refused_eigen, numbers_of, answer_of, end_of, eigen_of}
 use Rattle.eigen.specs.Ordered.{rotation_axes}
-use Rattle.eigen.specs.declared.eigen2x2.Eigen2.{Eigen2}
-use Rattle.eigen.specs.declared.eigen3x3.Eigen3.{Eigen3}
 use Rattle.eigen.proofs.Watched.{watched_ends}
 use Rattle.eigen.proofs.Moved.{same_permutation, same_permutation2}
 use Rattle.eigen.proofs.Full.{solved_full}
@@ -54,7 +52,7 @@ values_fit f a n h =
     let w = watched_last_of f a in
     let given : SixFit f a = subst (SixFit f) (tabulate_all 6 a n)
     (six (h 0 (omega arith)) (h 1 (omega arith)) (h 2 (omega arith)) (h 3 (omega arith)) (h 4 (omega arith)) (h 5 (omega arith))) in
-    by_call (refused_eigen f) a (numbers_of w.state) (answer_of f w) (λ (r : Eigen3). Fit f 3 r.values)
+    by_call (refused_eigen f) a (numbers_of w.state) (answer_of f w) (λ (r : EigenAnswer). Fit f 3 r.values)
     (λ _ _. ranked_fit f w.state (rw (watched_ends f a) (last_fit f a given)))
     (λ _ _. zeros_fit f 3) (λ _. zeros_fit f 3)
 
@@ -62,7 +60,7 @@ pub values2_length : (f : Format) (a : List Float) → length (eigen2_of f a).va
 unfolding eigen2_of end2_of
 values2_length f a =
     let x = solved2 f a in
-    by_call (refused2 f) a (numbers2_of x) (answer2_of (blind2_of f a) x) (λ (r : Eigen2). length r.values ≡ 2)
+    by_call (refused2 f) a (numbers2_of x) (answer2_of (blind2_of f a) x) (λ (r : Eigen2Answer). length r.values ≡ 2)
     (λ _ _. (solved_full f a).0) (λ _ _. refl) (λ _. refl)
 
 -- both are what an operation gave, whatever the matrix is
@@ -70,7 +68,7 @@ pub values2_fit : (f : Format) (a : List Float) → Fit f 2 (eigen2_of f a).valu
 unfolding eigen2_of end2_of
 values2_fit f a =
     let x = solved2 f a in
-    by_call (refused2 f) a (numbers2_of x) (answer2_of (blind2_of f a) x) (λ (r : Eigen2). Fit f 2 r.values)
+    by_call (refused2 f) a (numbers2_of x) (answer2_of (blind2_of f a) x) (λ (r : Eigen2Answer). Fit f 2 r.values)
     (λ _ _. each (same_permutation2 f a) (λ (v : Float). T (fits f v)) two)
     (λ _ _. zeros_fit f 2) (λ _. zeros_fit f 2)
   where

@@ -1,3 +1,5 @@
+pub mod Told
+pub mod Swapped
 pub mod Rounds
 pub mod Watched
 pub mod Answered

@@ -1,22 +1,23 @@
 -- The values of an answer with code 0 are finite and put in order, so they ascend; two of them also where a tie changes their places.
-use Rattle.float.proofs.Words.{◌≡◌, sym, ap, ◌∙◌, true, List, ℕ, ◌<◌, arith, length, Float, Format}
+use Rattle.std.specs.Prelude.{Ok}
+use Rattle.float.proofs.Words.{◌≡◌, refl, true, List, ℕ, ◌<◌, arith, length, Float, Format}
 use Rattle.float.specs.Width.{F}
 use Rattle.float.specs.Sign.{finite, all_finite}
 use Rattle.float.proofs.Finite.{at-finite, parts_finite}
 use Rattle.matrix.specs.Places.{at}
 use Rattle.matrix.specs.Square.{exchange_of}
-use Rattle.matrix.specs.declared.symmetric.Sym2.{Sym2}
-use Rattle.matrix.specs.declared.symmetric.Sym3.{Sym3}
+use Rattle.matrix.specs.Symmetric.{Sym3, Sym2}
 use Rattle.jacobi.proofs.Moves.{each_before}
 use Rattle.jacobi.proofs.Sorted.{upward, upward_ties, sorts2, sorts3}
-use Rattle.eigen.specs.Eigen3x3.{State, last_of, diagonal, ranked_of, eigen_of}
-use Rattle.eigen.specs.EigVals.{bare_last_of, alone, nothing_swapped, eigvals_of, eigvals2_of}
-use Rattle.eigen.specs.Eigen2x2.{axes_of, solved2, eigen2_of}
+use Rattle.eigen.specs.Eigen3x3.{State, last_of, diagonal, ranked_of, EigenAnswer, eigen_of}
+use Rattle.eigen.specs.EigVals.{bare_last_of, alone, nothing_swapped, EigValsAnswer, eigvals_of, EigVals2Answer, eigvals2_of}
+use Rattle.eigen.specs.Eigen2x2.{axes_of, solved2, Eigen2Answer, eigen2_of}
 use Rattle.eigen.specs.Ordered.{InOrder, ValuesInOrder, diagonal_axes, rotation_axes}
 use Rattle.eigen.specs.declared.eigen2x2.Eigen2.{Eigen2}
 use Rattle.eigen.specs.declared.eigen2x2.EigVals2.{EigVals2}
 use Rattle.eigen.specs.declared.eigen3x3.Eigen3.{Eigen3}
 use Rattle.eigen.specs.declared.eigen3x3.EigVals3.{EigVals3}
+use Rattle.eigen.proofs.Told.{handed_out}
 use Rattle.eigen.proofs.Answered.{answered, answered_values, answered2, answered_values2}
 use Rattle.eigen.proofs.Moved.{same_permutation, same_permutation2, values_moved}
 use Rattle.eigen.proofs.Full.{last_filled, bare-filled, diagonal-finite, solved_full}
@@ -77,18 +78,27 @@ module _ (f : Format) (a : List Float) where
 
 -- ---- the calls: any answer within the promise that the source states
 
-pub in_order_call : (a : Sym3) (r : Eigen3) → length a.«data» ≡ 6 → eigen-jacobi.Post tt (a, tt) r (a, tt) → r.code ≡ 0
-    → InOrder 3 (diagonal_axes (last_of F a.«data»)) (record { values = r.values; carried = r.vectors.«data» })
-in_order_call a r n p e = rw p (in_order F a.«data» n (sym (ap (λ (r : Eigen3). r.code) p) ∙ e))
+pub in_order_call : (a : Sym3) (x : Eigen3) → length a.«data» ≡ 6 → eigen-jacobi.Post tt (a, tt) (Ok x) (a, tt)
+    → InOrder 3 (diagonal_axes (last_of F a.«data»)) (record { values = x.values; carried = x.vectors.«data» })
+in_order_call a x n p =
+    handed_out (λ (r : EigenAnswer). r.code)
+    (λ (r : EigenAnswer). InOrder 3 (diagonal_axes (last_of F a.«data»)) (record { values = r.values; carried = r.vectors.«data» })) p refl
+    (in_order F a.«data» n)
 
-pub values_in_order_call : (a : Sym3) (r : EigVals3) → length a.«data» ≡ 6 → eigvals-jacobi.Post tt (a, tt) r (a, tt) → r.code ≡ 0
-    → ValuesInOrder 3 (diagonal (bare_last_of F a.«data»).matrix) r.values
-values_in_order_call a r n p e = rw p (values_in_order F a.«data» n (sym (ap (λ (r : EigVals3). r.code) p) ∙ e))
+pub values_in_order_call : (a : Sym3) (x : EigVals3) → length a.«data» ≡ 6 → eigvals-jacobi.Post tt (a, tt) (Ok x) (a, tt)
+    → ValuesInOrder 3 (diagonal (bare_last_of F a.«data»).matrix) x.values
+values_in_order_call a x n p =
+    handed_out (λ (r : EigValsAnswer). r.code) (λ (r : EigValsAnswer). ValuesInOrder 3 (diagonal (bare_last_of F a.«data»).matrix) r.values) p refl
+    (values_in_order F a.«data» n)
 
-pub in_order2_call : (a : Sym2) (r : Eigen2) → eigen2x2-eigen.Post tt (a, tt) r (a, tt) → r.code ≡ 0
-    → InOrder 2 (rotation_axes F a.«data») (record { values = r.values; carried = r.vectors.«data» })
-in_order2_call a r p e = rw p (in_order2 F a.«data» (sym (ap (λ (r : Eigen2). r.code) p) ∙ e))
+pub in_order2_call : (a : Sym2) (x : Eigen2) → eigen2x2-eigen.Post tt (a, tt) (Ok x) (a, tt)
+    → InOrder 2 (rotation_axes F a.«data») (record { values = x.values; carried = x.vectors.«data» })
+in_order2_call a x p =
+    handed_out (λ (r : Eigen2Answer). r.code)
+    (λ (r : Eigen2Answer). InOrder 2 (rotation_axes F a.«data») (record { values = r.values; carried = r.vectors.«data» })) p refl (in_order2 F a.«data»)
 
-pub values_in_order2_call : (a : Sym2) (r : EigVals2) → eigen2x2-eigvals.Post tt (a, tt) r (a, tt) → r.code ≡ 0
-    → ValuesInOrder 2 (rotation_axes F a.«data»).values r.values
-values_in_order2_call a r p e = rw p (values_in_order2 F a.«data» (sym (ap (λ (r : EigVals2). r.code) p) ∙ e))
+pub values_in_order2_call : (a : Sym2) (x : EigVals2) → eigen2x2-eigvals.Post tt (a, tt) (Ok x) (a, tt)
+    → ValuesInOrder 2 (rotation_axes F a.«data»).values x.values
+values_in_order2_call a x p =
+    handed_out (λ (r : EigVals2Answer). r.code) (λ (r : EigVals2Answer). ValuesInOrder 2 (rotation_axes F a.«data»).values r.values) p refl
+    (values_in_order2 F a.«data»)

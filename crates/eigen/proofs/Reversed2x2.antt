@@ -1,5 +1,6 @@
 -- Code and mark of a 2x2 matrix and of its negation are the same. Both make the same rotation, which is blind for both or for none; the values of one are those
 -- of the other, negated; and the order only moves numbers. So all numbers of one answer are finite exactly where all those of the other are.
+use Rattle.std.specs.Prelude.{Result}
 use Rattle.float.proofs.Words.{◌≡◌, refl, sym, ap, ◌∙◌, subst₂, Bool, true, false, ◌&&◌, List, [], ◌∷◌, map, length, Float, Format}
 use Rattle.float.specs.Width.{F}
 use Rattle.float.specs.Sign.{finite, all_finite}
@@ -7,15 +8,18 @@ use Rattle.float.proofs.Choice.{chosen}
 use Rattle.float.proofs.Finite.{lists_finite}
 use Rattle.float.proofs.Judged.{both_called}
 use Rattle.float.proofs.Negation.{Rel, same, negation, add_rel, sub_rel, mul_rel, finite_rel}
+use Rattle.matrix.specs.Codes.{told}
 use Rattle.matrix.specs.Places.{at, negated_of}
-use Rattle.matrix.specs.declared.symmetric.Sym2.{Sym2}
+use Rattle.matrix.specs.declared.codes.Refusal.{Refusal}
+use Rattle.matrix.specs.Symmetric.{Sym2}
 use Rattle.matrix.proofs.Tables.{negated-finite}
 use Rattle.jacobi.specs.Order.{Ranked, ordered}
 use Rattle.jacobi.specs.declared.rotation.Rotation.{Rotation}
 use Rattle.jacobi.proofs.Negated.{blind_same, rotation_same}
 use Rattle.jacobi.proofs.Moves.{values_finite, columns-finite}
 use Rattle.eigen.specs.Eigen2x2.{turn2_of, blind2_of, lower_of, upper_of, not_below, axes_of, solved2, refused2, numbers2_of, answer2_of, end2_of, eigen2_of}
-use Rattle.eigen.specs.EigVals.{refused_values2, values2_of, values_end2_of, eigvals2_of}
+use Rattle.eigen.specs.Eigen2x2.{Eigen2Answer, whole_eigen2}
+use Rattle.eigen.specs.EigVals.{whole_eig_vals2, refused_values2, values2_of, values_end2_of, eigvals2_of}
 use Rattle.eigen.specs.Ordered.{rotation_axes}
 use Rattle.eigen.specs.Reversed2x2.{SameCodeAndMark, SameValuesCodeAndMark}
 use Rattle.eigen.specs.declared.eigen2x2.Eigen2.{Eigen2}
@@ -100,7 +104,7 @@ made_reversed2 f a g alike n =
     let b = negated_of 3 a in
     let x = solved2 f a in
     let y = solved2 f b in
-    both_called (λ (r q : Eigen2). all_finite (map g r.values) ≡ all_finite (map g q.values)) (refused2 f) a b (numbers2_of x) (numbers2_of y)
+    both_called (λ (r q : Eigen2Answer). all_finite (map g r.values) ≡ all_finite (map g q.values)) (refused2 f) a b (numbers2_of x) (numbers2_of y)
     (answer2_of (blind2_of f a) x) (answer2_of (blind2_of f b) y)
     (negated-finite 3 a n) (lists_finite x.values y.values x.carried y.carried (solved_values f a) (solved_vectors f a))
     (λ _. solved_made f a g alike) (λ k h. refl)
@@ -119,10 +123,12 @@ values_reversed2 f a n =
 
 -- A matrix of the source holds three numbers. Here its numbers are a list, so their count is a premise.
 pub reversed2_wiring : (a b : Sym2) → length a.«data» ≡ 3 → b.«data» ≡ negated_of 3 a.«data»
-    → (r q : Eigen2) → eigen.Post tt (a, tt) r (a, tt) → eigen.Post tt (b, tt) q (b, tt) → SameCodeAndMark r q
+    → (r q : Result Eigen2 Refusal) → eigen.Post tt (a, tt) r (a, tt) → eigen.Post tt (b, tt) q (b, tt)
+    → SameCodeAndMark (told (refused2 F) whole_eigen2 r) (told (refused2 F) whole_eigen2 q)
 reversed2_wiring a b h e r q p s = subst₂ SameCodeAndMark (sym p) (sym (s ∙ ap (eigen2_of F) e)) (reversed2 F a.«data» h)
 
 pub values_reversed2_wiring : (a b : Sym2) → length a.«data» ≡ 3 → b.«data» ≡ negated_of 3 a.«data»
-    → (r q : EigVals2) → eigvals.Post tt (a, tt) r (a, tt) → eigvals.Post tt (b, tt) q (b, tt) → SameValuesCodeAndMark r q
+    → (r q : Result EigVals2 Refusal) → eigvals.Post tt (a, tt) r (a, tt) → eigvals.Post tt (b, tt) q (b, tt)
+    → SameValuesCodeAndMark (told (refused_values2 F) whole_eig_vals2 r) (told (refused_values2 F) whole_eig_vals2 q)
 values_reversed2_wiring a b h e r q p s =
     subst₂ SameValuesCodeAndMark (sym p) (sym (s ∙ ap (eigvals2_of F) e)) (values_reversed2 F a.«data» h)

@@ -2,12 +2,10 @@
 use Rattle.std.specs.Prelude.{◌≡◌, true, false, ◌⊎◌, List, Float}
 use Rattle.std.specs.Float.{Format}
 use Rattle.float.specs.Sign.{all_finite}
-use Rattle.eigen.specs.Eigen3x3.{last_of, watched_last_of, ranked_of, refused_eigen, answer_of, eigen_of}
-use Rattle.eigen.specs.EigVals.{eigvals_of}
-use Rattle.eigen.specs.declared.eigen3x3.Eigen3.{Eigen3}
-use Rattle.eigen.specs.declared.eigen3x3.EigVals3.{EigVals3}
+use Rattle.eigen.specs.Eigen3x3.{last_of, watched_last_of, ranked_of, refused_eigen, answer_of, eigen_of, EigenAnswer}
+use Rattle.eigen.specs.EigVals.{eigvals_of, EigValsAnswer}
 
-abbrev pub without_vectors : Eigen3 → EigVals3
+abbrev pub without_vectors : EigenAnswer → EigValsAnswer
 without_vectors r = record { code = r.code; made = r.made; settled = r.settled; values = r.values; worked = r.worked }
 
 -- input and matrix of the last state are finite, and a number of its vectors, in the order of the values, is not

@@ -4,7 +4,7 @@ use Rattle.std.specs.Float.{Format}
 use Rattle.std.specs.Float.Ieee.{add, sub, mul, lt, neg}
 use Rattle.float.specs.Judged.{judged_call}
 use Rattle.matrix.specs.Places.{zeros, at}
-use Rattle.matrix.specs.Square.{mat2, exchange_of}
+use Rattle.matrix.specs.Square.{Mat2, mat2, exchange_of}
 use Rattle.jacobi.specs.Rotation.{rotation_of}
 use Rattle.jacobi.specs.Blind.{blind_of}
 use Rattle.jacobi.specs.Order.{Ranked, ordered}
@@ -44,7 +44,17 @@ solved2 f a = axes_of (turn2_of f a) (lower_of f (turn2_of f a) a) (upper_of f (
 
 -- ---- the answer
 
-abbrev pub refused2 : Format → ℕ → Eigen2
+pub record Eigen2Answer : Type 0 where
+  pub code : ℕ
+  pub settled : Bool
+  pub values : List Float
+  pub vectors : Mat2
+
+-- what a call hands out, with the code of one that is not refused
+abbrev pub whole_eigen2 : Eigen2 → Eigen2Answer
+whole_eigen2 x = record { code = 0; settled = x.settled; values = x.values; vectors = x.vectors }
+
+abbrev pub refused2 : Format → ℕ → Eigen2Answer
 refused2 f k = record { code = k; settled = false; values = zeros f 2; vectors = mat2 (zeros f 4) }
 
 -- the numbers worked out: values and vectors in order
@@ -52,12 +62,12 @@ abbrev pub numbers2_of : Ranked (List Float) → List Float
 numbers2_of x = x.values ++ x.carried
 
 -- the mark: its rotation is not blind
-abbrev pub answer2_of : Bool → Ranked (List Float) → Eigen2
+abbrev pub answer2_of : Bool → Ranked (List Float) → Eigen2Answer
 answer2_of blind x = record { code = 0; settled = not blind; values = x.values; vectors = mat2 x.carried }
 
 -- the answer to a, whose axes are x
-unfoldable pub end2_of : Format → List Float → Bool → Ranked (List Float) → Eigen2
+unfoldable pub end2_of : Format → List Float → Bool → Ranked (List Float) → Eigen2Answer
 end2_of f a blind x = judged_call (refused2 f) a (numbers2_of x) (answer2_of blind x)
 
-unfoldable pub eigen2_of : Format → List Float → Eigen2
+unfoldable pub eigen2_of : Format → List Float → Eigen2Answer
 eigen2_of f a = end2_of f a (blind2_of f a) (solved2 f a)

@@ -1,17 +1,20 @@
 -- The 3x3 call: states, the run of at most 25 rotations, and the answer. Definitions only.
-use Rattle.std.specs.Prelude.{Bool, false, List, [], ◌∷◌, ◌++◌, ℕ, Float}
+use Rattle.std.specs.Prelude.{Bool, false, ◌||◌, List, [], ◌∷◌, ◌++◌, ℕ, Float}
 use Rattle.std.specs.Float.{Format}
 use Rattle.std.specs.Float.Ieee.{lt}
+use Rattle.float.specs.Width.{F}
 use Rattle.float.specs.Constants.{limit_f}
 use Rattle.float.specs.Judged.{judged_call}
 use Rattle.matrix.specs.Places.{zeros}
-use Rattle.matrix.specs.Square.{mat3, identity_of, exchange_of}
-use Rattle.matrix.specs.Symmetric.{sym3}
+use Rattle.matrix.specs.Square.{Mat3, mat3, identity_of, exchange_of}
+use Rattle.matrix.specs.Symmetric.{Sym3, sym3}
 use Rattle.jacobi.specs.Pairs.{turned_of}
 use Rattle.jacobi.specs.Run.{run, nothing_made, one_more}
 use Rattle.jacobi.specs.Blind.{marked, Watched, watched_run, sighted}
 use Rattle.jacobi.specs.Order.{Ranked, ordered3, ascending}
 use Rattle.jacobi.specs.declared.made.Made.{Made}
+use Rattle.jacobi.specs.declared.pairs.Pair.{Pair}
+use Rattle.jacobi.specs.declared.rotation.Rotation.{Rotation}
 use Rattle.eigen.specs.Pairs.{entry, off_diag_of, pair_of, chosen_of, blind_at, applied_of}
 use Rattle.eigen.specs.declared.order.Sorted.{Sorted}
 use Rattle.eigen.specs.declared.eigen3x3.Working.{Working}
@@ -25,10 +28,7 @@ pub record State : Type 0 where
   pub made : Made
 
 -- and whether a rotation made so far was blind
-abbrev pub working : Watched State → Working
-working w = record { a = sym3 w.state.matrix; v = mat3 w.state.vectors; made = w.state.made; blind = w.blind }
-
-abbrev pub of_working : Working → Watched State
+abbrev pub of_working : Working Mat3 → Watched State
 of_working w = record { state = record { matrix = w.a.«data»; vectors = w.v.«data»; made = w.made }; blind = w.blind }
 
 -- ---- the test: the largest magnitude beside the diagonal is strictly under the limit
@@ -65,6 +65,23 @@ watched_of f k w = watched_run (step_of f) (λ (s : State). settled_of f s.matri
 abbrev pub watched_last_of : Format → List Float → Watched State
 watched_last_of f a = watched_of f 25 (sighted (start_of f a))
 
+-- ---- the run as the source has it, with anything carried along: `turn` says what a rotation of a pair makes of that
+
+abbrev pub carried_step : {V : Type 0} → (Pair → Rotation → V → V) → Working V → Working V
+carried_step turn w =
+    let a = w.a.«data» in record {
+      a = sym3 (next_matrix F a);
+      v = turn (pair_of a) (chosen_of F a) w.v;
+      made = one_more w.made;
+      blind = w.blind || blind_at F a;
+    }
+
+abbrev pub carried_done : {V : Type 0} → Working V → Bool
+carried_done w = settled_of F w.a.«data»
+
+unfoldable pub run_carried : {V : Type 0} → (Pair → Rotation → V → V) → Sym3 → V → Working V
+run_carried turn a v = run (carried_step turn) carried_done 25 (record { a = a; v = v; made = nothing_made; blind = false })
+
 -- ---- the diagonal in order, with its columns
 
 abbrev pub diagonal : List Float → List Float
@@ -84,15 +101,27 @@ ranked_of s = rank_of (record { values = diagonal s.matrix; carried = s.vectors 
 
 -- ---- the answer
 
+pub record EigenAnswer : Type 0 where
+  pub code : ℕ
+  pub made : Made
+  pub settled : Bool
+  pub values : List Float
+  pub vectors : Mat3
+  pub worked : Sym3
+
+-- what a call hands out, with the code of one that is not refused
+abbrev pub whole_eigen : Eigen3 → EigenAnswer
+whole_eigen x = record { code = 0; made = x.made; settled = x.settled; values = x.values; vectors = x.vectors; worked = x.worked }
+
 -- refused: all numbers +0, no rotation, not settled
-abbrev pub refused_eigen : Format → ℕ → Eigen3
+abbrev pub refused_eigen : Format → ℕ → EigenAnswer
 refused_eigen f k = record { code = k; made = nothing_made; settled = false; values = zeros f 3; vectors = mat3 (zeros f 9); worked = sym3 (zeros f 6) }
 
 -- the numbers worked out: the matrix and the vectors in order. The values are numbers of the matrix.
 abbrev pub numbers_of : State → List Float
 numbers_of s = s.matrix ++ (ranked_of s).carried
 
-abbrev pub answer_of : Format → Watched State → Eigen3
+abbrev pub answer_of : Format → Watched State → EigenAnswer
 answer_of f w = record {
   code = 0;
   made = w.state.made;
@@ -103,8 +132,8 @@ answer_of f w = record {
 }
 
 -- the answer to a, whose run ended in w
-unfoldable pub end_of : Format → List Float → Watched State → Eigen3
+unfoldable pub end_of : Format → List Float → Watched State → EigenAnswer
 end_of f a w = judged_call (refused_eigen f) a (numbers_of w.state) (answer_of f w)
 
-unfoldable pub eigen_of : Format → List Float → Eigen3
+unfoldable pub eigen_of : Format → List Float → EigenAnswer
 eigen_of f a = end_of f a (watched_last_of f a)

@@ -7,27 +7,23 @@ use Rattle.float.specs.Sign.{magnitude_of}
 use Rattle.jacobi.specs.Rotation.{tiny_diagonal}
 use Rattle.jacobi.specs.Blind.{marked, sighted}
 use Rattle.eigen.specs.Pairs.{entry, app, aqq, pair_of}
-use Rattle.eigen.specs.Eigen3x3.{last_of, end_of}
-use Rattle.eigen.specs.EigVals.{bare_last_of, bare_end_of, values_end2_of}
-use Rattle.eigen.specs.Eigen2x2.{solved2, end2_of}
+use Rattle.eigen.specs.Eigen3x3.{last_of, end_of, EigenAnswer}
+use Rattle.eigen.specs.EigVals.{bare_last_of, bare_end_of, values_end2_of, EigVals2Answer, EigValsAnswer}
+use Rattle.eigen.specs.Eigen2x2.{solved2, end2_of, Eigen2Answer}
 use Rattle.eigen.specs.Counted.{state_after}
-use Rattle.eigen.specs.declared.eigen2x2.Eigen2.{Eigen2}
-use Rattle.eigen.specs.declared.eigen2x2.EigVals2.{EigVals2}
-use Rattle.eigen.specs.declared.eigen3x3.Eigen3.{Eigen3}
-use Rattle.eigen.specs.declared.eigen3x3.EigVals3.{EigVals3}
 
 -- ---- the answers by the runs that are not watched: a 3x3 is marked by the test of its last matrix alone, and a 2x2 always
 
-abbrev pub plain_of : Format → List Float → Eigen3
+abbrev pub plain_of : Format → List Float → EigenAnswer
 plain_of f a = end_of f a (sighted (last_of f a))
 
-abbrev pub plain_values_of : Format → List Float → EigVals3
+abbrev pub plain_values_of : Format → List Float → EigValsAnswer
 plain_values_of f a = bare_end_of f a (sighted (bare_last_of f a))
 
-abbrev pub plain2_of : Format → List Float → Eigen2
+abbrev pub plain2_of : Format → List Float → Eigen2Answer
 plain2_of f a = end2_of f a false (solved2 f a)
 
-abbrev pub plain_values2_of : Format → List Float → EigVals2
+abbrev pub plain_values2_of : Format → List Float → EigVals2Answer
 plain_values2_of f a = values_end2_of f a false (solved2 f a).values
 
 -- ---- where a mark is the same with both: no diagonal is tiny
@@ -42,15 +38,15 @@ DiagonalStands f a n = (j : ℕ) → j < n → (i : ℕ) → i < 3 → lt (magni
 
 -- ---- an answer that keeps its mark only if no rotation was blind
 
-abbrev pub remarked : Bool → Eigen3 → Eigen3
+abbrev pub remarked : Bool → EigenAnswer → EigenAnswer
 remarked blind r =
     record { code = r.code; made = r.made; settled = marked blind r.settled; values = r.values; vectors = r.vectors; worked = r.worked }
 
-abbrev pub remarked_values : Bool → EigVals3 → EigVals3
+abbrev pub remarked_values : Bool → EigValsAnswer → EigValsAnswer
 remarked_values blind r = record { code = r.code; made = r.made; settled = marked blind r.settled; values = r.values; worked = r.worked }
 
-abbrev pub remarked2 : Bool → Eigen2 → Eigen2
+abbrev pub remarked2 : Bool → Eigen2Answer → Eigen2Answer
 remarked2 blind r = record { code = r.code; settled = marked blind r.settled; values = r.values; vectors = r.vectors }
 
-abbrev pub remarked_values2 : Bool → EigVals2 → EigVals2
+abbrev pub remarked_values2 : Bool → EigVals2Answer → EigVals2Answer
 remarked_values2 blind r = record { code = r.code; settled = marked blind r.settled; values = r.values }

@@ -1,19 +1,21 @@
 -- What a rotation of one pair makes of a symmetric 3x3, and which pair is rotated. Definitions only.
-use Rattle.std.specs.Prelude.{Bool, List, ℕ, Float}
+use Rattle.std.specs.Prelude.{Bool, List, [], ◌∷◌, ℕ, Float}
 use Rattle.std.specs.Float.{Format}
 use Rattle.std.specs.Float.Ieee.{add, sub, mul, div}
+use Rattle.float.specs.Width.{F}
 use Rattle.float.specs.Constants.{zero_f, one_f}
 use Rattle.float.specs.Sign.{magnitude_of}
 use Rattle.matrix.specs.Places.{at, packed_index}
+use Rattle.matrix.specs.Square.{Mat3, mat3}
 use Rattle.matrix.specs.Symmetric.{sym3, packed_of}
 use Rattle.jacobi.specs.Rotation.{rotation_of}
 use Rattle.jacobi.specs.Blind.{blind_of}
-use Rattle.jacobi.specs.Pairs.{Place, at_p, at_q, at_k, place_in, index_p, index_q, index_k, largest_of}
+use Rattle.jacobi.specs.Pairs.{Place, at_p, at_q, at_k, place_in, index_p, index_q, index_k, largest_of, turned_of}
+use Rattle.jacobi.specs.declared.rotation.Elements.{Elements}
 use Rattle.jacobi.specs.declared.rotation.Rotation.{Rotation}
 use Rattle.jacobi.specs.declared.pairs.Pair.{Pair}
 use Rattle.jacobi.specs.declared.pairs.Pair.TheVariants.{P12, P13, P23}
 use Rattle.jacobi.specs.declared.pairs.OffDiag.{OffDiag}
-use Rattle.eigen.specs.declared.pairs.Elements.{Elements}
 use Rattle.eigen.specs.declared.pairs.Turned.{Turned}
 
 -- the number at (i, j) of the packed matrix
@@ -32,6 +34,11 @@ aqq x a = entry a (index_q x) (index_q x)
 
 abbrev pub elements_of : Pair → List Float → Elements
 elements_of x a = record { apq = apq x a; app = app x a; aqq = aqq x a }
+
+-- the packed matrix with the rows and columns of the pair first
+abbrev pub pair_first_of : Pair → List Float → List Float
+pair_first_of x a =
+    app x a ∷ apq x a ∷ aqq x a ∷ entry a (index_p x) (index_k x) ∷ entry a (index_q x) (index_k x) ∷ entry a (index_k x) (index_k x) ∷ []
 
 -- ---- the largest pair by the magnitude of its number beside the diagonal
 
@@ -93,3 +100,11 @@ module _ (f : Format) (x : Pair) (r : Rotation) (a : List Float) where
 -- the matrix after its rotation, the rotation itself, and whether it is blind
 abbrev pub turned_pair : Format → Pair → List Float → Turned
 turned_pair f x a = record { a = sym3 (applied_of f x (turn_of f x a) a); r = turn_of f x a; blind = blind_pair f x a }
+
+-- ---- what a rotation makes of what is carried along: of the vectors, and of nothing
+
+abbrev pub with_vectors : Pair → Rotation → Mat3 → Mat3
+with_vectors x r v = mat3 (turned_of F x r.c r.s v.«data»)
+
+abbrev pub with_nothing : Pair → Rotation → Unit {0} → Unit {0}
+with_nothing x r v = v

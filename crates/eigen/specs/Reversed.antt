@@ -3,7 +3,7 @@ use Rattle.std.specs.Prelude.{◌≡◌, true, false, List, ℕ, Float}
 use Rattle.std.specs.Float.Ieee.{neg, eq}
 use Rattle.matrix.specs.Places.{at, tabulate, negated_of}
 use Rattle.matrix.specs.Square.{entry_of}
-use Rattle.eigen.specs.declared.eigen3x3.Eigen3.{Eigen3}
+use Rattle.eigen.specs.Eigen3x3.{EigenAnswer}
 
 -- each number of the packed matrix negated
 abbrev pub negated : List Float → List Float
@@ -35,7 +35,7 @@ ColumnsExchanged v w = (column_of v 0 ≡ column_of w 2) × (column_of v 1 ≡ c
 
 -- The codes, what the runs made, and the marks are the same. With code 0 the values are exchanged and negated; and if no two of them are equal, the columns are
 -- exchanged.
-pub record Reversed (r q : Eigen3) : Type 0 where
+pub record Reversed (r q : EigenAnswer) : Type 0 where
   pub codes : r.code ≡ q.code
   pub made : r.made ≡ q.made
   pub marks : r.settled ≡ q.settled

@@ -1,15 +1,15 @@
 // The 2x2 call: one rotation is enough. Real is f64 (float::width).
 ghost use Rattle.std.specs.Prelude.{◌≡◌};
 ghost use Rattle.float.specs.Width.{F};
-ghost use Rattle.float.specs.Judged.{judged};
-ghost use Rattle.eigen.specs.Eigen2x2.{axes2, of_axes2, blind2_of, axes_of, solved2, refused2, numbers2_of, answer2_of, eigen2_of};
-ghost use Rattle.eigen.specs.EigVals.{refused_values2, values2_of, eigvals2_of};
+ghost use Rattle.matrix.specs.Codes.{told};
+ghost use Rattle.matrix.specs.Places.{at};
+ghost use Rattle.eigen.specs.Eigen2x2.{axes2, blind2_of, axes_of, solved2, refused2, whole_eigen2, eigen2_of};
+ghost use Rattle.eigen.specs.EigVals.{refused_values2, whole_eig_vals2, eigvals2_of};
 
 use float::sign::{all_finite, both_finite};
 use float::width::Real;
-use jacobi::blind::is_blind;
-use jacobi::rotation::{Rotation, compute_jacobi_rotation};
-use matrix::codes::{ANSWER_NOT_FINITE, DONE, INPUT_NOT_FINITE};
+use jacobi::rotation::{Elements, Rotation};
+use matrix::codes::Refusal;
 use matrix::square::Mat2;
 use matrix::symmetric::Sym2;
 
@@ -22,7 +22,6 @@ pub struct Axes2 {
 
 #[derive(Clone, Copy)]
 pub struct Eigen2 {
-    pub code: u8,
     pub settled: bool,
     pub values: [Real; 2],
     pub vectors: Mat2,
@@ -30,7 +29,6 @@ pub struct Eigen2 {
 
 #[derive(Clone, Copy)]
 pub struct EigVals2 {
-    pub code: u8,
     pub settled: bool,
     pub values: [Real; 2],
 }
@@ -40,8 +38,7 @@ pub struct EigVals2 {
 fn axes(r: Rotation, e1: Real, e2: Real) -> Axes2
     ensures { result ≡ axes2 (axes_of r e1 e2) }
 {
-    let c = r.c;
-    let s = r.s;
+    let Rotation { c, s, .. } = r;
     if e1 < e2 {
         Axes2 {
             values: [e1, e2],
@@ -59,100 +56,65 @@ fn axes(r: Rotation, e1: Real, e2: Real) -> Axes2
     }
 }
 
+// The three numbers that the rotation is chosen by.
+fn elements(a: Sym2) -> Elements
+    ensures { result ≡ record { apq = at a.«data» 1; app = at a.«data» 0; aqq = at a.«data» 2 } }
+{
+    let [app, apq, aqq] = a.data;
+    Elements { apq, app, aqq }
+}
+
 // One rotation, and the order of what it leaves (lines 23 to 35).
 #[tactic(auto, unfolding(crate::specs::Eigen2x2::solved2))]
 fn eig2(a: Sym2) -> Axes2
     ensures { result ≡ axes2 (solved2 F a.«data») }
 {
-    let d = a.data;
-    let app = d[0];
-    let apq = d[1];
-    let aqq = d[2];
-    let r = compute_jacobi_rotation(apq, app, aqq);
-    let t_apq = r.t * apq;
-    axes(r, app - t_apq, aqq + t_apq)
+    let n = elements(a);
+    let r = n.rotation();
+    let t_apq = r.t * n.apq;
+    axes(r, n.app - t_apq, n.aqq + t_apq)
 }
 
 // Whether that rotation is blind.
 fn is_turn_blind(a: Sym2) -> bool
     ensures { result ≡ blind2_of F a.«data» }
 {
-    let d = a.data;
-    is_blind(d[1], d[0], d[2])
-}
-
-fn refused(code: u8) -> Eigen2
-    ensures { result ≡ refused2 F code }
-{
-    Eigen2 {
-        code,
-        settled: false,
-        values: [0.0; 2],
-        vectors: Mat2 { data: [0.0; 4] },
-    }
-}
-
-// The answer, if all its numbers are finite.
-fn judge(x: Axes2, blind: bool) -> Eigen2
-    ensures { result ≡ judged (refused2 F) 7 (numbers2_of (of_axes2 x)) (answer2_of blind (of_axes2 x)) }
-{
-    let values = x.values;
-    let vectors = x.vectors;
-    let v = vectors.data;
-    if both_finite(&values, &v) {
-        return Eigen2 {
-            code: DONE,
-            settled: !blind,
-            values,
-            vectors,
-        };
-    }
-    refused(ANSWER_NOT_FINITE)
+    elements(a).is_blind()
 }
 
 // Values in ascending order, with their vectors.
-pub fn eigen(a: Sym2) -> Eigen2
-    ensures { result ≡ eigen2_of F a.«data» }
+#[tactic(auto, unfolding(crate::specs::Eigen2x2::eigen2_of, crate::specs::Eigen2x2::end2_of, float::specs::Judged::judged))]
+pub fn eigen(a: Sym2) -> Result<Eigen2, Refusal>
+    ensures { told (refused2 F) whole_eigen2 result ≡ eigen2_of F a.«data» }
 {
-    let d = a.data;
-    if all_finite(&d) {
-        return judge(eig2(a), is_turn_blind(a));
+    if !all_finite(&a.data) {
+        return Err(Refusal::InputNotFinite);
     }
-    refused(INPUT_NOT_FINITE)
-}
-
-fn refused_values(code: u8) -> EigVals2
-    ensures { result ≡ refused_values2 F code }
-{
-    EigVals2 {
-        code,
-        settled: false,
-        values: [0.0; 2],
+    let Axes2 { values, vectors } = eig2(a);
+    if !both_finite(&values, &vectors.data) {
+        return Err(Refusal::AnswerNotFinite);
     }
-}
-
-fn judge_values(values: [Real; 2], blind: bool) -> EigVals2
-    ensures { result ≡ judged (refused_values2 F) 7 values (values2_of blind values) }
-{
-    if all_finite(&values) {
-        return EigVals2 {
-            code: DONE,
-            settled: !blind,
-            values,
-        };
-    }
-    refused_values(ANSWER_NOT_FINITE)
+    Ok(Eigen2 {
+        settled: !is_turn_blind(a),
+        values,
+        vectors,
+    })
 }
 
 // Values in ascending order.
-pub fn eigvals(a: Sym2) -> EigVals2
-    ensures { result ≡ eigvals2_of F a.«data» }
+#[tactic(auto, unfolding(crate::specs::EigVals::eigvals2_of, crate::specs::EigVals::values_end2_of, float::specs::Judged::judged))]
+pub fn eigvals(a: Sym2) -> Result<EigVals2, Refusal>
+    ensures { told (refused_values2 F) whole_eig_vals2 result ≡ eigvals2_of F a.«data» }
 {
-    let d = a.data;
-    if all_finite(&d) {
-        let x = eig2(a);
-        let values = x.values;
-        return judge_values(values, is_turn_blind(a));
+    if !all_finite(&a.data) {
+        return Err(Refusal::InputNotFinite);
     }
-    refused_values(INPUT_NOT_FINITE)
+    let values = eig2(a).values;
+    if !all_finite(&values) {
+        return Err(Refusal::AnswerNotFinite);
+    }
+    Ok(EigVals2 {
+        settled: !is_turn_blind(a),
+        values,
+    })
 }

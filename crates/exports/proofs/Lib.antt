@@ -1,2 +1,4 @@
+pub mod Refused
+pub mod Written
 pub mod Left
 pub mod Unique

@@ -6,10 +6,8 @@ use Rattle.matrix.specs.Answer.{Answer, when_done}
 use Rattle.matrix.specs.Arithmetic.{mul_of, sym_mul_of}
 use Rattle.cholesky.specs.Factor.{FactorAnswer, refused_factor, factor2_of, factor3_of}
 use Rattle.cholesky.specs.Solve.{solve2_of, solve3_of}
-use Rattle.eigen.specs.Eigen3x3.{eigen_of}
-use Rattle.eigen.specs.declared.eigen3x3.Eigen3.{Eigen3}
-use Rattle.svd.specs.Svd3x3.{svd_of}
-use Rattle.svd.specs.declared.svd3x3.Svd3.{Svd3}
+use Rattle.eigen.specs.Eigen3x3.{EigenAnswer, eigen_of}
+use Rattle.svd.specs.Svd3x3.{SvdAnswer, svd_of}
 use Rattle.exports.specs.Slices.{into, into_first, given}
 
 -- ---- y = A x, with the numbers of the matrix in a
@@ -45,7 +43,7 @@ solve3_into f l b x = into_first 3 x (given 6 l x (solve3_of f l b x))
 
 -- ---- values, vectors and the worked matrix, with code 0
 
-abbrev pub eigen_numbers : Eigen3 → List Float
+abbrev pub eigen_numbers : EigenAnswer → List Float
 eigen_numbers r = (r.values ++ r.vectors.«data») ++ r.worked.«data»
 
 unfoldable pub eigen3_into : Format → List Float → List Float → Answer (List Float)
@@ -53,7 +51,7 @@ eigen3_into f a out = into 18 out (given 6 a out (when_done (record { code = (ei
 
 -- ---- values, U, V and the worked matrix, with code 0
 
-abbrev pub svd_numbers : Svd3 → List Float
+abbrev pub svd_numbers : SvdAnswer → List Float
 svd_numbers r = ((r.values ++ r.u.«data») ++ r.v.«data») ++ r.worked.«data»
 
 unfoldable pub svd3_into : Format → List Float → List Float → Answer (List Float)

@@ -24,6 +24,7 @@ pub mod Rounding
 pub mod Correct
 pub mod Invalid
 pub mod Owned
+pub mod InPlace
 pub mod Magnitude
 pub mod PatternOrder
 pub mod Scaling

@@ -1,12 +1,12 @@
 -- The exponents that occur. A format's values are from 2 ^ -low up to 2 ^ (emax + 1), so the power of two under one is from 2 ^ -low to 2 ^ emax; and an
 -- exponent that is limited to -low and low is left alone where it, or its opposite, is one of those.
-use Rattle.float.proofs.Words.{◌≡◌, refl, sym, ap, ◌∙◌, subst, Bool, true, false, true≢false, false≢true, ℕ, zero, suc, ◌+◌, ◌-◌, ◌*◌, ◌^◌, ◌≤◌, ◌<◌}
-use Rattle.float.proofs.Words.{mul-pos, mul-one, zero-lt-suc, zero-mul, lt_irrefl, le_trans, le_of_eq, le_of_lt, lt_of_lt_of_le, lt_of_le_of_lt, arith}
-use Rattle.float.proofs.Words.{T, leb, leb→le, le→leb, lit≤, lit<, ltb-true, ltb-false, ℤ, pos, negsuc, neg_ℤ, ◌+ℤ◌, ◌-ℤ◌, pow_pos, Float, nan, inf}
-use Rattle.float.proofs.Words.{fin, Format, binary32, binary64, emax, low, up, size, minus, fits, min-eq_left, min-eq_right, min-le_right, zero-min}
+use Rattle.float.proofs.Words.{◌≡◌, refl, sym, ap, ◌∙◌, subst, Bool, true, false, true≢false, ℕ, zero, suc, ◌+◌, ◌-◌, ◌*◌, ◌^◌, ◌≤◌, ◌<◌}
+use Rattle.float.proofs.Words.{mul-pos, mul-one, zero-lt-suc, zero-mul, lt_irrefl, le_trans, le_of_eq, lt_of_lt_of_le, lt_of_le_of_lt, arith}
+use Rattle.float.proofs.Words.{T, leb, leb→le, le→leb, lit≤, lit<, ℤ, pos, negsuc, neg_ℤ, ◌+ℤ◌, ◌-ℤ◌, pow_pos, Float, nan, inf}
+use Rattle.float.proofs.Words.{fin, Format, binary32, binary64, emax, low, up, size, minus, fits, min-eq_left, min-le_right, zero-min}
 use Rattle.float.proofs.Words.{leb-false}
 use lib.IntN.{+ℤ_idl}
-use lib.Signed.{mag, le_z, lt_z}
+use lib.Signed.{mag, le_z}
 use mir.Syntax.{Width}
 use Rattle.std.proofs.Common.{SFits, to_z, of_z}
 use mir.Val.{hbits}
@@ -29,24 +29,7 @@ emax_low : (f : Format) → emax f ≤ low f
 emax_low binary32 = lit≤ tt
 emax_low binary64 = lit≤ tt
 
--- below, above, and between the two ends
-pub limited_under : (f : Format) (k : ℤ) → lt_z k (negsuc (low f - 1)) ≡ true → limited f k ≡ negsuc (low f - 1)
-limited_under f (pos n) t = absurd (false≢true t)
-limited_under f (negsuc n) t = ap negsuc (min-eq_right (le_of_lt (ltb-true (low f - 1) n t)))
-
-pub limited-over : (f : Format) (k : ℤ) → lt_z (pos (low f)) k ≡ true → limited f k ≡ pos (low f)
-limited-over f (pos n) t = ap pos (min-eq_right (le_of_lt (ltb-true (low f) n t)))
-limited-over f (negsuc n) t = absurd (false≢true t)
-
-pub limited_within : (f : Format) (k : ℤ) → lt_z k (negsuc (low f - 1)) ≡ false → lt_z (pos (low f)) k ≡ false → limited f k ≡ k
-limited_within f (pos n) a b = ap pos (min-eq_left (ltb-false (low f) n b))
-limited_within f (negsuc n) a b = ap negsuc (min-eq_left (ltb-false (low f - 1) n a))
-
--- a limited exponent is in reach up to emax, and beyond that its opposite is
-pub limited_low : (f : Format) (k : ℤ) → le_z (limited f k) (pos (emax f)) ≡ true → InReach f (limited f k)
-limited_low f (pos n) t = subst T (sym t) tt
-limited_low f (negsuc n) t = and_i (leb _ (low f - 1)) true (le→leb _ (low f - 1) (min-le_right n (low f - 1))) tt
-
+-- a limited exponent beyond emax has its opposite in reach
 pub limited_high : (f : Format) (k : ℤ) → le_z (limited f k) (pos (emax f)) ≡ false → InReach f (neg_ℤ (limited f k))
 limited_high f (pos n) t = opposite _ (min-le_right n (low f)) t
   where
@@ -92,9 +75,6 @@ module _ (f : Format) (w : Width) (room : low f < 2 ^ hbits w) (k r : ℤ) (h : 
 
     pub opposite_held : to_z w (of_z w (pos 0 -ℤ to_z w (of_z w r))) ≡ neg_ℤ (limited f k)
     opposite_held = to_z-of_z w (pos 0 -ℤ to_z w (of_z w r)) opposite_fits ∙ opposite_is
-
-    pub opposite_in_reach : InReach f (to_z w (of_z w (pos 0 -ℤ to_z w (of_z w r))))
-    opposite_in_reach = rw opposite_held opposite_reach
 
 pub reach_place : (f : Format) (k : ℤ) (j : ℕ) → InReach f k → pos j ≡ k +ℤ pos (low f) → (k ≡ minus j (low f)) × (j ≤ low f + emax f)
 reach_place f (pos n) j t e =

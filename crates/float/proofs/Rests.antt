@@ -1,11 +1,6 @@
 -- A root of 53 digits in two parts, a and e: what the rest of the first part says of the square of the whole. Plain numbers.
 use Rattle.float.proofs.Words.{◌≡◌, ℕ, ◌+◌, ◌*◌, ◌^◌, ◌≤◌, ◌<◌, arith}
 use Rattle.float.specs.Digits.{NearestRoot}
-use Rattle.float.proofs.Squares.{square_back}
-
--- a root whose square is all but a little of a large number is large itself
-pub large : (m a r : ℕ) → a * a + r ≡ m → r < 2 ^ 34 → 2 ^ 62 ≤ m → 2 ^ 30 < a
-large m a r e l g = square_back (2 ^ 30) a (omega arith)
 
 -- The whole root q has the square (a * a) * 2^42 + 2^22 * (a * e) + e * e. So 2^22 * beyond is what (a * a + r) * 2^42 has more than that, with
 -- e * e and 2^22 * v added; and q is the nearest where this is neither under 0 nor over 2^22 * (u + v).

@@ -1,7 +1,6 @@
--- How many binary digits a number has: the powers of two under it and over it tell. A shift adds its places, and the leading zeros of a word are the rest.
+-- How many binary digits a number has: the powers of two under it and over it tell. A shift adds its places.
 use Rattle.float.proofs.Words.{◌≡◌, sym, ◌∙◌, subst, ℕ, suc, ◌+◌, ◌-◌, ◌*◌, ◌^◌, ◌≤◌, ◌<◌, mul-le-mul_right, lt_of_le_of_lt, le_trans, le_of_eq}
 use Rattle.float.proofs.Words.{le_antisymm, arith, pow-add, shl_lt, size}
-use lib.Count.{count_leading_zeros, leading_top}
 use lib.Ieee.Digits.{size-lt, size-le, size_reaches}
 use Rattle.float.proofs.Powers.{exponent_lt}
 
@@ -20,9 +19,3 @@ size-shifted n k p =
     (le_trans (le_of_eq (pow-add 2 i k)) (mul-le-mul_right (2 ^ k) (size_reaches n i (omega arith))))
     (subst (λ (x : ℕ). n * 2 ^ k < 2 ^ x) e (shl_lt (size n) k (size-lt n)))
     ∙ sym e
-
-pub size_leading : (k a : ℕ) → 0 < a → a < 2 ^ k → size a + count_leading_zeros k a ≡ k
-size_leading k a p h =
-    let t = leading_top k a p h in
-    let e = size_exact t.0 a t.2 t.3 in
-    omega arith

@@ -25,7 +25,15 @@ limited f (negsuc n) = negsuc (min n (low f - 1))
 abbrev pub times_limited : Format → Float → ℤ → Float
 times_limited f x k = times_power f (limited f k) x
 
--- and `scaled9`, of nine numbers
+-- and `scaled_all`, of n numbers: those from place i on, and all from the first
+abbrev pub times_from : Format → ℤ → ℕ → ℕ → List Float → List Float
+times_from f k i zero xs = []
+times_from f k i (suc n) xs = times_limited f (slice_index_or xs i nan) k ∷ times_from f k (suc i) n xs
+
+abbrev pub times_each : Format → ℕ → List Float → ℤ → List Float
+times_each f n xs k = times_from f k 0 n xs
+
+-- nine of them, written out: `nine_each` says that they are the same
 abbrev pub nine_times : Format → List Float → ℤ → List Float
 nine_times f xs k =
     let y : ℕ → Float = λ (i : ℕ). times_limited f (slice_index_or xs i nan) k in y 0 ∷ y 1 ∷ y 2 ∷ y 3 ∷ y 4 ∷ y 5 ∷ y 6 ∷ y 7 ∷ y 8 ∷ []

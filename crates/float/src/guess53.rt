@@ -1,6 +1,6 @@
 // A guess at a root of 53 digits, and at its inverse. It promises nothing, and nothing rests on it: `tried53` tests what comes of it, so a
 // wrong guess costs time and no digit.
-use crate::curves53::curves_in;
+use crate::curves53::CURVES;
 use crate::width::Bits;
 
 // In units of 2^-63 and 2^-64, for a number that is scaled by fours to be from 1 up to 4.
@@ -11,7 +11,7 @@ pub(crate) struct Guess {
 }
 
 fn product(x: u32, y: u32) -> Bits {
-    (x as Bits) * (y as Bits)
+    Bits::from(x) * Bits::from(y)
 }
 
 // The product of two fractions in units of 2^-32, in the same units.
@@ -21,16 +21,20 @@ fn scaled_product(x: u32, y: u32) -> u32 {
 
 // For the normal number with the pattern b: the interval is the lowest digit of the exponent and the next 5, and d the 32 digits after them.
 pub(crate) fn guess_for(b: Bits) -> Guess {
-    let c = curves_in(b / 0x8000_0000_0000 % 64);
+    let c = &CURVES[(b / 0x8000_0000_0000 % 64) as usize];
     let d = (b / 0x8000 % 0x1_0000_0000) as u32;
     let d2 = scaled_product(d, d);
     let d3 = scaled_product(d2, d);
-    let r = std::num::wrapping_add_u64(c.r0, product(c.r1, d));
-    let w = std::num::wrapping_sub_u64(c.w0, product(c.w1, d));
-    let r = std::num::wrapping_sub_u64(r, product(c.r2, d2));
-    let w = std::num::wrapping_add_u64(w, product(c.w2, d2));
     Guess {
-        root: std::num::wrapping_add_u64(r, product(c.r3, d3)),
-        inverse: std::num::wrapping_sub_u64(w, product(c.w3, d3)),
+        root: c
+            .r0
+            .wrapping_add(product(c.r1, d))
+            .wrapping_sub(product(c.r2, d2))
+            .wrapping_add(product(c.r3, d3)),
+        inverse: c
+            .w0
+            .wrapping_sub(product(c.w1, d))
+            .wrapping_add(product(c.w2, d2))
+            .wrapping_sub(product(c.w3, d3)),
     }
 }

@@ -23,9 +23,9 @@ use crate::width::{
 
 // A whole root and what is left beyond its square.
 #[derive(Clone, Copy)]
-pub struct Whole {
-    pub q: Bits,
-    pub left: Bits,
+struct Whole {
+    q: Bits,
+    left: Bits,
 }
 
 // The whole root of m * 2^DIGITS, one binary digit a pass: `left` takes the next two digits of m * 2^DIGITS, of which `rest` holds
@@ -37,26 +37,24 @@ fn whole_root(m: Bits) -> Whole
     let mut rest = m;
     let mut q: Bits = 0;
     let mut left: Bits = 0;
-    let mut i: Bits = 0;
-    while i < PRECISION {
+    for _ in 0..PRECISION {
         left = left * 4 + rest / LEADING;
         rest = rest % LEADING * 4;
         let odd = q * 4 + 1;
-        q = q * 2;
+        q *= 2;
         if odd <= left {
-            left = left - odd;
-            q = q + 1;
+            left -= odd;
+            q += 1;
         }
-        i += 1;
     }
     Whole { q, left }
 }
 
 // m * 4^j, with j such that it has PRECISION digits or one more.
 #[derive(Clone, Copy)]
-pub struct Scaled {
-    pub m: Bits,
-    pub j: Bits,
+struct Scaled {
+    m: Bits,
+    j: Bits,
 }
 
 fn scaled_up(m: Bits) -> Scaled
@@ -66,7 +64,7 @@ fn scaled_up(m: Bits) -> Scaled
     let mut n = m;
     let mut j: Bits = 0;
     while n < LEADING {
-        n = n * 4;
+        n *= 4;
         j += 1;
     }
     Scaled { m: n, j }
@@ -79,70 +77,43 @@ fn root_pattern(b: Bits) -> Bits
 {
     let p = parts_of(b);
     let e = p.e - DIGITS;
-    let h = halved(e);
-    let mut m = p.m;
-    if is_odd(e) {
-        m = m * 2;
-    }
+    let m = if is_odd(e) { p.m * 2 } else { p.m };
     let s = scaled_up(m);
     let w = whole_root(s.m);
-    let mut q = w.q;
-    if w.left > w.q {
-        q = q + 1;
-    }
-    (biased(h) - s.j) * LEADING + q
-}
-
-// A pattern, and whether it is the root's.
-#[derive(Clone, Copy)]
-struct Quick {
-    sure: bool,
-    bits: Bits,
+    let q = if w.left > w.q { w.q + 1 } else { w.q };
+    (biased(halved(e)) - s.j) * LEADING + q
 }
 
 // The root's pattern of a normal number's, where the digits that are tried for it are sure. In the pattern of an odd field the lowest digit
 // of the field stands where the leading digit of the significand belongs; an even one has the odd bit that is folded into m.
-fn quick_root(b: Bits) -> Quick
-    ensures { QuickRoot F b result.sure result.bits }
+fn quick_root(b: Bits) -> Option<Bits>
+    ensures { QuickRoot F b result }
 {
-    if b < LEADING {
-        return Quick {
-            sure: false,
-            bits: 0,
-        };
+    if b < LEADING || b >= INFINITY {
+        return None;
     }
-    if b >= INFINITY {
-        return Quick {
-            sure: false,
-            bits: 0,
-        };
-    }
-    let mut m = b % (2 * LEADING);
-    if m < LEADING {
-        m = 2 * m + 2 * LEADING;
-    }
-    let t = tried_root(b, m);
+    let digits = b % (2 * LEADING);
+    let m = if digits < LEADING {
+        2 * digits + 2 * LEADING
+    } else {
+        digits
+    };
+    let t = tried_root(b, m)?;
     let field = (b / LEADING - 1) / 2 + HALF_BIAS;
-    Quick {
-        sure: t.sure,
-        bits: field * LEADING + t.upper + t.lower,
-    }
+    Some(field * LEADING + t.upper + t.lower)
 }
 
 // The root on patterns: zeros keep their sign, +infinity stays, negative numbers and NaNs give NAN.
 pub fn root_bits(b: Bits) -> Bits
     ensures { result ≡ root_bits_of F b }
 {
-    if b % SIGN == 0 {
-        return b;
+    if b % SIGN == 0 || b == INFINITY {
+        b
+    } else if b > INFINITY {
+        NAN
+    } else {
+        root_pattern(b)
     }
-    if b > INFINITY {
-        return NAN;
-    }
-    if b == INFINITY {
-        return b;
-    }
-    root_pattern(b)
 }
 
 // The root of x: the nearest number to the exact one.
@@ -153,9 +124,8 @@ pub fn root(x: Real) -> Real
         return not_a_number();
     }
     let b = to_bits(x);
-    let t = quick_root(b);
-    if t.sure {
-        return of_number(t.bits);
+    match quick_root(b) {
+        Some(r) => of_number(r),
+        None => of_bits(root_bits(b)),
     }
-    of_bits(root_bits(b))
 }

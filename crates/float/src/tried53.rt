@@ -17,11 +17,9 @@ const LAST: Bits = 0x20_0000;
 // A rest is small below this.
 const SMALL: Bits = 0x4_0000_0000;
 
-// The digits in two parts, since the exponent can be put to the upper one while the lower one is still worked out; and whether their sum is the
-// nearest to the root.
+// Digits whose sum is the nearest to the root, in two parts, since the exponent can be put to the upper one while the lower one is still worked out.
 #[derive(Clone, Copy)]
 pub(crate) struct Tried {
-    pub sure: bool,
     pub upper: Bits,
     pub lower: Bits,
 }
@@ -31,7 +29,7 @@ fn rest_of(m: Bits, a: Bits) -> Bits
     requires { (2 ^ 62 ≤ m) × (a < 2 ^ 32) }
     ensures { result < 2 ^ 34 → a * a + result ≡ m }
 {
-    std::num::wrapping_sub_u64(m, a * a)
+    m.wrapping_sub(a * a)
 }
 
 // Half of r over a, in units of the last digits, rounded.
@@ -67,35 +65,30 @@ fn is_nearest(r: Bits, a: Bits, e: Bits) -> bool
     let square = e * e;
     let u = above(q, square);
     let v = below(q, square);
-    let beyond = std::num::wrapping_sub_u64(r * (LAST / 2) + v, a * e);
+    let beyond = (r * (LAST / 2) + v).wrapping_sub(a * e);
     beyond <= u + v
 }
 
-// The digits that come of the guess a of the first ones and of the guessed inverse, whatever these are.
-fn tried_by(m: Bits, a: Bits, inverse: Bits) -> Tried
+// The digits that come of the guess a of the first ones and of the guessed inverse, whatever these are; none where the test leaves them open.
+fn tried_by(m: Bits, a: Bits, inverse: Bits) -> Option<Tried>
     requires { (2 ^ 62 ≤ m) × (a < 2 ^ 32) × (inverse < 2 ^ 29) }
-    ensures { TriedRoot F (m * 2 ^ 42) result.sure result.upper result.lower }
+    ensures { TriedRoot F (m * 2 ^ 42) result }
 {
     let r = rest_of(m, a);
     if r >= SMALL {
-        return Tried {
-            sure: false,
-            upper: 0,
-            lower: 0,
-        };
+        return None;
     }
     let e = last_digits(r, inverse);
-    Tried {
-        sure: is_nearest(r, a, e),
+    is_nearest(r, a, e).then_some(Tried {
         upper: a * LAST,
         lower: e,
-    }
+    })
 }
 
 // The digits of the root of m * 2^52, tried for the number with the pattern b, of whose significand m is made.
-pub(crate) fn tried_root(b: Bits, m: Bits) -> Tried
+pub(crate) fn tried_root(b: Bits, m: Bits) -> Option<Tried>
     requires { (hid F ≤ m) × (m < 4 * hid F) }
-    ensures { TriedRoot F (m * hid F) result.sure result.upper result.lower }
+    ensures { TriedRoot F (m * hid F) result }
 {
     let g = guess_for(b);
     tried_by(m * 0x400, g.root / 0x1_0000_0000, g.inverse / 0x8_0000_0000)

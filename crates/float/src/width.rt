@@ -1,5 +1,5 @@
-// The width of the numbers: Real is f64. Every type and constant that another width would change stands here; only the language's
-// own functions, which are the pair of `bits` and the leading zeros of `scaled`, and the format F of specs/Width.antt stand elsewhere.
+// The width of the numbers: Real is f64. Every type and constant that another width would change stands here; only the library's function that
+// writes a pattern, in `bits`, and the format F of specs/Width.antt stand elsewhere.
 pub type Real = f64;
 
 // What holds a pattern, and what holds an exponent.
@@ -20,10 +20,8 @@ pub const LOWEST: Exponent = -1074;
 
 pub const BIAS: Exponent = 1075;
 
-// The exponent of the largest numbers, and the highest place of a word.
+// The exponent of the largest numbers.
 pub const GREATEST: Exponent = 1023;
-
-pub const LAST_PLACE: Bits = 63;
 
 // Half of the field of a number from 1 up to 2, rounded down.
 pub const HALF_BIAS: Bits = 511;
@@ -45,9 +43,9 @@ pub const ONE: Bits = 0x3ff0_0000_0000_0000;
 pub const MINUS_ONE: Bits = 0xbff0_0000_0000_0000;
 
 // 2^-52, the distance from 1 to the next number, and 2^-44, which is 256 times that: what counts as nothing beside the diagonal.
-pub const EPSILON: Real = 2.220446049250313e-16;
+pub const EPSILON: Real = Real::EPSILON;
 
-pub const LIMIT: Real = 5.684341886080802e-14;
+pub const LIMIT: Real = 256.0 * EPSILON;
 
 // The nearest number to 1 / sqrt 2.
-pub const HALF_ROOT: Real = 0.7071067811865476;
+pub const HALF_ROOT: Real = std::f64::consts::FRAC_1_SQRT_2;

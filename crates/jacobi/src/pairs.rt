@@ -2,14 +2,14 @@
 ghost use Rattle.std.specs.Prelude.{◌≡◌};
 ghost use Rattle.float.specs.Width.{F};
 ghost use Rattle.matrix.specs.Square.{mat3};
+ghost use Rattle.jacobi.specs.declared.pairs.Pair.TheVariants.{P12};
 ghost use Rattle.jacobi.specs.Pairs.{larger_pair, largest_of, turned_of};
-ghost use Rattle.jacobi.specs.declared.pairs.Pair.TheVariants.{P12, P13, P23};
 
 use float::width::Real;
 use matrix::square::Mat3;
 
 // The rows and columns p < q that a rotation mixes.
-#[derive(Clone, Copy)]
+#[derive(Clone, Copy, Debug, PartialEq, Eq)]
 pub enum Pair {
     P12,
     P13,
@@ -17,7 +17,7 @@ pub enum Pair {
 }
 
 // A pair and the size of what lies beside the diagonal there.
-#[derive(Clone, Copy)]
+#[derive(Clone, Copy, Debug, PartialEq)]
 pub struct OffDiag {
     pub pair: Pair,
     pub size: Real,
@@ -50,70 +50,34 @@ pub fn largest(abs12: Real, abs13: Real, abs23: Real) -> OffDiag
     larger(larger(first, second), third)
 }
 
+// The first two columns turned into each other.
 fn turn12(v: Mat3, c: Real, s: Real) -> Mat3
     ensures { result ≡ mat3 (turned_of F P12 c s v.«data») }
 {
-    let d = v.data;
+    let [x1, x2, x3, y1, y2, y3, z1, z2, z3] = v.data;
     Mat3 {
         data: [
-            c * d[0] - s * d[3],
-            c * d[1] - s * d[4],
-            c * d[2] - s * d[5],
-            s * d[0] + c * d[3],
-            s * d[1] + c * d[4],
-            s * d[2] + c * d[5],
-            d[6],
-            d[7],
-            d[8],
-        ],
-    }
-}
-
-fn turn13(v: Mat3, c: Real, s: Real) -> Mat3
-    ensures { result ≡ mat3 (turned_of F P13 c s v.«data») }
-{
-    let d = v.data;
-    Mat3 {
-        data: [
-            c * d[0] - s * d[6],
-            c * d[1] - s * d[7],
-            c * d[2] - s * d[8],
-            d[3],
-            d[4],
-            d[5],
-            s * d[0] + c * d[6],
-            s * d[1] + c * d[7],
-            s * d[2] + c * d[8],
-        ],
-    }
-}
-
-fn turn23(v: Mat3, c: Real, s: Real) -> Mat3
-    ensures { result ≡ mat3 (turned_of F P23 c s v.«data») }
-{
-    let d = v.data;
-    Mat3 {
-        data: [
-            d[0],
-            d[1],
-            d[2],
-            c * d[3] - s * d[6],
-            c * d[4] - s * d[7],
-            c * d[5] - s * d[8],
-            s * d[3] + c * d[6],
-            s * d[4] + c * d[7],
-            s * d[5] + c * d[8],
+            c * x1 - s * y1,
+            c * x2 - s * y2,
+            c * x3 - s * y3,
+            s * x1 + c * y1,
+            s * x2 + c * y2,
+            s * x3 + c * y3,
+            z1,
+            z2,
+            z3,
         ],
     }
 }
 
 // The columns of the pair turned into each other, by cosine and sine alone: the crate's `update_eigenvectors` (dense3x3/eigen.rs, lines 369 to 382).
-pub fn turn_columns(v: Mat3, p: Pair, c: Real, s: Real) -> Mat3
-    ensures { result ≡ mat3 (turned_of F p c s v.«data») }
+// They take the first two places and go back, so that each place is a constant: that is faster than an index.
+pub fn turn_columns(v: Mat3, pair: Pair, c: Real, s: Real) -> Mat3
+    ensures { result ≡ mat3 (turned_of F pair c s v.«data») }
 {
-    match p {
+    match pair {
         Pair::P12 => turn12(v, c, s),
-        Pair::P13 => turn13(v, c, s),
-        Pair::P23 => turn23(v, c, s),
+        Pair::P13 => turn12(v.swap23(), c, s).swap23(),
+        Pair::P23 => turn12(v.swap12().swap23(), c, s).swap23().swap12(),
     }
 }

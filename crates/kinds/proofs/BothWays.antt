@@ -1,6 +1,8 @@
 -- Both ways keep what each kernel owes of its answer: multiplying back changes the values alone, and gives 7 where one of them is not finite any more. The
 -- numbers that are divided stay finite, so that no finite number is refused with 5, and a refusal's zeros stay zeros.
 use Rattle.float.proofs.Words.{◌≡◌, refl, sym, ap, ◌∙◌, subst⁻¹, Bool, true, false, List, map, ℕ, ◌≤◌, arith, T, ℤ, neg_ℤ, Float, Format, eq, lt, le, fits}
+use Rattle.std.specs.Prelude.{Option, Some, None, MatchOption}
+use Rattle.float.specs.Choice.{pick}
 use Rattle.float.specs.Constants.{zero_f, one_f, two_f}
 use Rattle.float.specs.Judged.{judged}
 use Rattle.float.specs.Sign.{all_finite}
@@ -12,10 +14,8 @@ use Rattle.float.proofs.Divided.{divided-finite, divided_range}
 use Rattle.matrix.specs.Places.{zeros, at, Fit}
 use Rattle.matrix.proofs.Tables.{length-tabulate, at-tabulate, first_tabulate, map-tabulate, zeros-finite}
 use Rattle.kinds.specs.Table.{kind_numbered}
-use Rattle.kinds.specs.Work.{first_of, refused_kind, used_finite, plain_of}
+use Rattle.kinds.specs.Work.{Asked, WorkedAnswer, first_of, refused_kind, used_finite, plain_of}
 use Rattle.kinds.specs.Ways.{is_scaled, times_all, power_for, divided, revalued, multiplied_back, work_of}
-use Rattle.kinds.specs.declared.work.Asked.{Asked}
-use Rattle.kinds.specs.declared.work.Worked.{Worked}
 use Rattle.kinds.proofs.Rows.{nine_most}
 use Rattle.kinds.proofs.Works.{Sized, plain-sized, Clear, plain_clear, Uncounted, plain_uncounted, plain_mark, NotFive, plain-five}
 
@@ -48,7 +48,7 @@ divided_between f a h fit some =
 -- ---- multiplying back
 
 -- its two ends
-pub by_back : (f : Format) (k : ℤ) (w : Worked) (P : Worked → Type 0)
+pub by_back : (f : Format) (k : ℤ) (w : WorkedAnswer) (P : WorkedAnswer → Type 0)
     → (all_finite (times_all f k 3 w.values) ≡ true → P (revalued (times_all f k 3 w.values) w))
     → (all_finite (times_all f k 3 w.values) ≡ false → P (refused_kind f 7 0))
     → P (multiplied_back f k w)
@@ -63,25 +63,38 @@ pub back_refused : (f : Format) (k : ℤ) (code pivot : ℕ) → multiplied_back
 unfolding multiplied_back judged
 back_refused f k code pivot = rw (times_zeros f k, zeros-finite f 3)
 
-pub back_kept : (f : Format) (k : ℤ) (w : Worked) → Clear f w → (w.code ≡ 0 → ⊥) → multiplied_back f k w ≡ w
+-- m is what is worked, k the power that it is divided by if it is, and P and Q say what is known in each case
+pub refused_either : (f : Format) (a m : Asked) (k : Option ℤ) (P : Type 0) (Q : ℤ → Type 0) (code pivot : ℕ)
+    → k ≡ pick (is_scaled a) (Some (power_for f a)) None → MatchOption k P Q → (P → m ≡ a) → ((x : ℤ) → Q x → m ≡ divided f x a)
+    → refused_kind f code pivot ≡ plain_of f m → refused_kind f code pivot ≡ work_of f a
+refused_either f a m k P Q code pivot e h p q r = by (is_scaled a) refl
+  where
+    by : (t : Bool) → is_scaled a ≡ t → refused_kind f code pivot ≡ work_of f a
+    by true s =
+        let x = power_for f a in
+        let d = q x (rw (e, s) at h) in
+        rw s (sym (back_refused f x code pivot) ∙ ap (multiplied_back f x) (r ∙ ap (plain_of f) d))
+    by false s = rw s (r ∙ ap (plain_of f) (p (rw (e, s) at h)))
+
+pub back_kept : (f : Format) (k : ℤ) (w : WorkedAnswer) → Clear f w → (w.code ≡ 0 → ⊥) → multiplied_back f k w ≡ w
 back_kept f k w h n = ap (multiplied_back f k) (h n) ∙ back_refused f k w.code w.count ∙ sym (h n)
 
-back_sized : (f : Format) (k : ℤ) (w : Worked) → Sized w → Sized (multiplied_back f k w)
+back_sized : (f : Format) (k : ℤ) (w : WorkedAnswer) → Sized w → Sized (multiplied_back f k w)
 back_sized f k w h = by_back f k w Sized (λ _. (refl, h.1, h.2)) (λ _. (refl, refl, refl))
 
-back_clear : (f : Format) (k : ℤ) (w : Worked) → Clear f w → Clear f (multiplied_back f k w)
+back_clear : (f : Format) (k : ℤ) (w : WorkedAnswer) → Clear f w → Clear f (multiplied_back f k w)
 back_clear f k w h =
     by_back f k w (Clear f)
-    (λ _ n. subst⁻¹ (λ (w : Worked). revalued (times_all f k 3 w.values) w ≡ refused_kind f w.code w.count) (h n) (rw (times_zeros f k)))
+    (λ _ n. subst⁻¹ (λ (w : WorkedAnswer). revalued (times_all f k 3 w.values) w ≡ refused_kind f w.code w.count) (h n) (rw (times_zeros f k)))
     (λ _ _. refl)
 
-back_uncounted : (f : Format) (k : ℤ) (w : Worked) (counts : Bool) → Uncounted counts w → Uncounted counts (multiplied_back f k w)
+back_uncounted : (f : Format) (k : ℤ) (w : WorkedAnswer) (counts : Bool) → Uncounted counts w → Uncounted counts (multiplied_back f k w)
 back_uncounted f k w counts h = by_back f k w (Uncounted counts) (λ _. h) (λ _ _ _. refl)
 
-back_mark : (f : Format) (k : ℤ) (w : Worked) → w.settled ≤ 1 → (multiplied_back f k w).settled ≤ 1
-back_mark f k w h = by_back f k w (λ (w : Worked). w.settled ≤ 1) (λ _. h) (λ _. omega arith)
+back_mark : (f : Format) (k : ℤ) (w : WorkedAnswer) → w.settled ≤ 1 → (multiplied_back f k w).settled ≤ 1
+back_mark f k w h = by_back f k w (λ (w : WorkedAnswer). w.settled ≤ 1) (λ _. h) (λ _. omega arith)
 
-back_five : (f : Format) (k : ℤ) (w : Worked) → NotFive w → NotFive (multiplied_back f k w)
+back_five : (f : Format) (k : ℤ) (w : WorkedAnswer) → NotFive w → NotFive (multiplied_back f k w)
 back_five f k w h = by_back f k w NotFive (λ _. h) (λ _ e. omega arith)
 
 -- ---- either way
@@ -91,7 +104,7 @@ module _ (f : Format) (a : Asked) where
   within = divided f (power_for f a) a
 
   -- what holds of a kernel's answer and is kept by multiplying back holds of both
-  pub by_way : (P : Worked → Type 0) → (is_scaled a ≡ true → P (multiplied_back f (power_for f a) (plain_of f within)))
+  pub by_way : (P : WorkedAnswer → Type 0) → (is_scaled a ≡ true → P (multiplied_back f (power_for f a) (plain_of f within)))
       → (is_scaled a ≡ false → P (plain_of f a))
       → P (work_of f a)
   by_way P = by_test P (is_scaled a) (multiplied_back f (power_for f a) (plain_of f within)) (plain_of f a)
@@ -109,7 +122,7 @@ module _ (f : Format) (a : Asked) where
 
   pub work_mark : (work_of f a).settled ≤ 1
   work_mark =
-      by_way (λ (w : Worked). w.settled ≤ 1) (λ _. back_mark f (power_for f a) (plain_of f within) (plain_mark f within)) (λ _. plain_mark f a)
+      by_way (λ (w : WorkedAnswer). w.settled ≤ 1) (λ _. back_mark f (power_for f a) (plain_of f within) (plain_mark f within)) (λ _. plain_mark f a)
 
   pub work_five : used_finite a ≡ true → NotFive (work_of f a)
   work_five h =

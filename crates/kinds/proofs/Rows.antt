@@ -1,8 +1,7 @@
 -- What holds of each row of the table holds of every kind: a number finds its row, or the row that stands for none.
 use Rattle.float.proofs.Words.{◌≡◌, true, not, false≢true, List, [], ◌∷◌, ℕ, ◌≤◌, arith, T, eqb}
 use Rattle.float.proofs.Choice.{chosen}
-use Rattle.kinds.specs.Table.{kinds, unknown, numbered_in, kind_numbered, count_of_row}
-use Rattle.kinds.specs.declared.table.Kind.{Kind}
+use Rattle.kinds.specs.Table.{Kind, kinds, unknown, numbered_in, kind_numbered, count_of_row}
 
 -- P of each row
 abbrev EachOf : (Kind → Type 0) → List Kind → Type 0

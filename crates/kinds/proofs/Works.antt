@@ -13,24 +13,19 @@ use Rattle.cholesky.specs.Solve.{factor_and_solve2_of, factor_and_solve3_of}
 use Rattle.cholesky.proofs.Rows.{factor2_unstopped, factor3_unstopped, solved2_unstopped, solved3_unstopped}
 use Rattle.cholesky.proofs.Owed.{factor2_owed, factor3_owed, solved2_owed, solved3_owed}
 use Rattle.eigen.specs.Eigen2x2.{eigen2_of}
-use Rattle.eigen.specs.Eigen3x3.{eigen_of}
+use Rattle.eigen.specs.Eigen3x3.{EigenAnswer, eigen_of}
 use Rattle.eigen.proofs.Owed.{eigen2_owed, eigen3_owed}
-use Rattle.eigen.specs.declared.eigen3x3.Eigen3.{Eigen3}
 use Rattle.svd.specs.Svd2x2.{svd2_of}
-use Rattle.svd.specs.Svd3x3.{svd_of}
+use Rattle.svd.specs.Svd3x3.{SvdAnswer, svd_of}
 use Rattle.svd.proofs.Owed.{svd2_owed, svd3_owed}
-use Rattle.svd.specs.declared.svd3x3.Svd3.{Svd3}
-use Rattle.kinds.specs.Table.{kind_numbered}
+use Rattle.kinds.specs.Table.{Kind, kind_numbered}
 use Rattle.kinds.specs.Work.{first_of, refused_kind, from_eigen2, from_eigen3, from_svd2, from_svd3, from_factor, from_solved, used_finite}
-use Rattle.kinds.specs.Work.{answered_by, plain_of}
-use Rattle.kinds.specs.declared.table.Kind.{Kind}
-use Rattle.kinds.specs.declared.work.Asked.{Asked}
-use Rattle.kinds.specs.declared.work.Worked.{Worked}
+use Rattle.kinds.specs.Work.{Asked, WorkedAnswer, answered_by, plain_of}
 use Rattle.kinds.proofs.Rows.{each_kind}
 
 -- ---- three values, nine numbers left and nine right
 
-abbrev pub Sized : Worked → Type 0
+abbrev pub Sized : WorkedAnswer → Type 0
 Sized w = (length w.values ≡ 3) × (length w.left ≡ 9) × (length w.right ≡ 9)
 
 factor_sized : (f : Format) (s : ℕ) (r : FactorAnswer) → Sized (from_factor f s r)
@@ -53,11 +48,11 @@ plain-sized f a =
 
 -- ---- with a code other than 0: only the code and a pivot's number
 
-abbrev pub Clear : Format → Worked → Type 0
+abbrev pub Clear : Format → WorkedAnswer → Type 0
 Clear f w = (w.code ≡ 0 → ⊥) → w ≡ refused_kind f w.code w.count
 
-same_refusal : (f : Format) (w : Worked) (k p : ℕ) → w ≡ refused_kind f k p → w ≡ refused_kind f w.code w.count
-same_refusal f w k p e = subst⁻¹ (λ (w : Worked). w ≡ refused_kind f w.code w.count) e refl
+same_refusal : (f : Format) (w : WorkedAnswer) (k p : ℕ) → w ≡ refused_kind f k p → w ≡ refused_kind f w.code w.count
+same_refusal f w k p e = subst⁻¹ (λ (w : WorkedAnswer). w ≡ refused_kind f w.code w.count) e refl
 
 factor_clear : (f : Format) (s : ℕ) (r : FactorAnswer) → Clear f (from_factor f s r)
 unfolding from_factor
@@ -81,7 +76,7 @@ plain_clear f a =
 
 -- ---- byte 6 is 0, but for a pivot's number and for the rotations of a kind that counts them
 
-abbrev pub Uncounted : Bool → Worked → Type 0
+abbrev pub Uncounted : Bool → WorkedAnswer → Type 0
 Uncounted counts w = (Stopped w.code → ⊥) → ((w.code ≡ 0) × (counts ≡ true) → ⊥) → w.count ≡ 0
 
 factor_uncounted : (f : Format) (s : ℕ) (r : FactorAnswer) → ((Stopped r.code → ⊥) → r.pivot ≡ 0) → Uncounted false (from_factor f s r)
@@ -95,9 +90,9 @@ plain_uncounted f a =
     let three = a.three in
     each_kind (λ (k : Kind). Uncounted k.counts (answered_by f k.kernel a)) (λ _ _. refl)
     (λ _ _. refl)
-    (λ _ c. ap (λ (r : Eigen3). r.made.count) ((eigen3_owed f (first_of 6 nine) refl).clear (λ e. c (e, refl))))
+    (λ _ c. ap (λ (r : EigenAnswer). r.made.count) ((eigen3_owed f (first_of 6 nine) refl).clear (λ e. c (e, refl))))
     (λ _ _. refl)
-    (λ _ c. ap (λ (r : Svd3). r.made.count) ((svd3_owed f (first_of 9 nine) refl).clear (λ e. c (e, refl))))
+    (λ _ c. ap (λ (r : SvdAnswer). r.made.count) ((svd3_owed f (first_of 9 nine) refl).clear (λ e. c (e, refl))))
     (factor_uncounted f 3 _ (factor2_unstopped f (zeros f 3) (first_of 3 nine)))
     (factor_uncounted f 6 _ (factor3_unstopped f (zeros f 6) (first_of 6 nine)))
     (λ n _. solved2_unstopped f (first_of 3 nine) (first_of 2 three) n)
@@ -112,7 +107,7 @@ mark_most false = omega arith
 
 factor_mark : (f : Format) (s : ℕ) (r : FactorAnswer) → (from_factor f s r).settled ≤ 1
 unfolding from_factor
-factor_mark f s r = chosen (λ (w : Worked). w.settled ≤ 1) (eqb r.code 0) _ _ (omega arith) (omega arith)
+factor_mark f s r = chosen (λ (w : WorkedAnswer). w.settled ≤ 1) (eqb r.code 0) _ _ (omega arith) (omega arith)
 
 pub plain_mark : (f : Format) (a : Asked) → (plain_of f a).settled ≤ 1
 unfolding answered_by
@@ -132,13 +127,13 @@ plain_mark f a =
 
 -- ---- over finite numbers: not 5
 
-abbrev pub NotFive : Worked → Type 0
+abbrev pub NotFive : WorkedAnswer → Type 0
 NotFive w = w.code ≡ 5 → ⊥
 
 -- a record of a factor has the factor's code
 pub factor_code : (f : Format) (s : ℕ) (r : FactorAnswer) → (from_factor f s r).code ≡ r.code
 unfolding from_factor
-factor_code f s r = by_eqb (λ (w : Worked). w.code ≡ r.code) r.code 0 _ _ (λ e. sym e) (λ _. refl)
+factor_code f s r = by_eqb (λ (w : WorkedAnswer). w.code ≡ r.code) r.code 0 _ _ (λ e. sym e) (λ _. refl)
 
 -- the numbers that a row uses are finite
 abbrev pub Used : Asked → Kind → Type 0

@@ -1,3 +1,4 @@
 pub mod Table
 pub mod Work
 pub mod Ways
+pub mod Read

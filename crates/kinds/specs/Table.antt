@@ -2,9 +2,26 @@
 -- rotations, whether its matrix is scaled unless the request's way says no, and the kernel that answers. Definitions only.
 use Rattle.std.specs.Prelude.{Bool, true, false, not, ◌||◌, List, [], ◌∷◌, ℕ, eqb, leb}
 use Rattle.float.specs.Choice.{pick}
-use Rattle.kinds.specs.declared.table.Kind.{Kind}
-use Rattle.kinds.specs.declared.table.Kernel.{Kernel}
-use Rattle.kinds.specs.declared.table.Kernel.TheVariants.{Eigen2x2, Eigen3x3, Svd2x2, Svd3x3, Factor2x2, Factor3x3, Solve2x2, Solve3x3, Unknown}
+
+-- what answers a kind: eigenvalues, singular values, a Cholesky factor, and a factor with a solution, of size 2 or 3
+pub data Kernel : Type 0 where
+  Eigen2x2 : Kernel
+  Eigen3x3 : Kernel
+  Svd2x2 : Kernel
+  Svd3x3 : Kernel
+  Factor2x2 : Kernel
+  Factor3x3 : Kernel
+  Solve2x2 : Kernel
+  Solve3x3 : Kernel
+  Unknown : Kernel
+
+pub record Kind : Type 0 where
+  pub number : ℕ
+  pub nine : ℕ
+  pub three : ℕ
+  pub counts : Bool
+  pub scales : Bool
+  pub kernel : Kernel
 
 abbrev pub row : ℕ → ℕ → ℕ → Bool → Bool → Kernel → Kind
 row number nine three counts scales kernel =

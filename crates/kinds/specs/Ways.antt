@@ -6,9 +6,7 @@ use Rattle.float.specs.Judged.{judged}
 use Rattle.float.specs.Scaled.{times_power, power_of}
 use Rattle.matrix.specs.Places.{at, tabulate}
 use Rattle.kinds.specs.Table.{kind_numbered}
-use Rattle.kinds.specs.Work.{first_of, refused_kind, plain_of}
-use Rattle.kinds.specs.declared.work.Asked.{Asked}
-use Rattle.kinds.specs.declared.work.Worked.{Worked}
+use Rattle.kinds.specs.Work.{Asked, WorkedAnswer, first_of, refused_kind, plain_of}
 
 -- the scaled way: the kind's matrix is scaled, and the request's way is 0
 abbrev pub is_scaled : Asked → Bool
@@ -32,15 +30,15 @@ worked_on f a = pick (is_scaled a) (divided f (power_for f a) a) a
 
 -- ---- after: the values multiplied back. All else of an answer has no unit and stays
 
-abbrev pub revalued : List Float → Worked → Worked
+abbrev pub revalued : List Float → WorkedAnswer → WorkedAnswer
 revalued values w =
     record { code = w.code; count = w.count; settled = w.settled; values = values; left = w.left; right = w.right }
 
 -- 7 where a value is not finite any more. The values of a refusal are zeros, and stay so.
-unfoldable pub multiplied_back : Format → ℤ → Worked → Worked
+unfoldable pub multiplied_back : Format → ℤ → WorkedAnswer → WorkedAnswer
 multiplied_back f k w = judged (λ (code : ℕ). refused_kind f code 0) 7 (times_all f k 3 w.values) (revalued (times_all f k 3 w.values) w)
 
 -- ---- the answer of a kind
 
-abbrev pub work_of : Format → Asked → Worked
+abbrev pub work_of : Format → Asked → WorkedAnswer
 work_of f a = pick (is_scaled a) (multiplied_back f (power_for f a) (plain_of f (divided f (power_for f a) a))) (plain_of f a)

@@ -1,5 +1,4 @@
--- What each kind answers to its numbers as they are: the one place that hands numbers to a kernel and takes its values back. `Asked` is what a request asks:
--- its kind, its way and its numbers. `Worked` is a kernel's answer as a record has it: three values, nine numbers left and nine right. Definitions only.
+-- What each kind answers to its numbers as they are: the one place that hands numbers to a kernel and takes its values back. Definitions only.
 use Rattle.std.specs.Prelude.{Bool, ◌&&◌, List, ℕ, eqb, ltb, Float}
 use Rattle.std.specs.Float.{Format}
 use Rattle.float.specs.Choice.{pick}
@@ -9,19 +8,27 @@ use Rattle.matrix.specs.Places.{zeros, at, tabulate}
 use Rattle.jacobi.specs.Blind.{mark_of}
 use Rattle.cholesky.specs.Factor.{FactorAnswer, factor2_of, factor3_of}
 use Rattle.cholesky.specs.Solve.{SolvedAnswer, factor_and_solve2_of, factor_and_solve3_of}
-use Rattle.eigen.specs.Eigen2x2.{eigen2_of}
-use Rattle.eigen.specs.Eigen3x3.{eigen_of}
-use Rattle.eigen.specs.declared.eigen2x2.Eigen2.{Eigen2}
-use Rattle.eigen.specs.declared.eigen3x3.Eigen3.{Eigen3}
-use Rattle.svd.specs.Svd2x2.{svd2_of}
-use Rattle.svd.specs.Svd3x3.{svd_of}
-use Rattle.svd.specs.declared.svd2x2.Svd2.{Svd2}
-use Rattle.svd.specs.declared.svd3x3.Svd3.{Svd3}
-use Rattle.kinds.specs.Table.{kind_numbered}
-use Rattle.kinds.specs.declared.table.Kernel.{Kernel}
-use Rattle.kinds.specs.declared.table.Kernel.TheVariants.{Eigen2x2, Eigen3x3, Svd2x2, Svd3x3, Factor2x2, Factor3x3, Solve2x2, Solve3x3, Unknown}
-use Rattle.kinds.specs.declared.work.Asked.{Asked}
-use Rattle.kinds.specs.declared.work.Worked.{Worked}
+use Rattle.eigen.specs.Eigen2x2.{Eigen2Answer, eigen2_of}
+use Rattle.eigen.specs.Eigen3x3.{EigenAnswer, eigen_of}
+use Rattle.svd.specs.Svd2x2.{Svd2Answer, svd2_of}
+use Rattle.svd.specs.Svd3x3.{SvdAnswer, svd_of}
+use Rattle.kinds.specs.Table.{Kernel, Eigen2x2, Eigen3x3, Svd2x2, Svd3x3, Factor2x2, Factor3x3, Solve2x2, Solve3x3, Unknown, kind_numbered}
+
+-- what a request asks: its kind, its way, and its numbers
+pub record Asked : Type 0 where
+  pub kind : ℕ
+  pub way : ℕ
+  pub nine : List Float
+  pub three : List Float
+
+-- a kernel's answer as a record has it: three values, nine numbers left and nine right, with code, count and mark
+pub record WorkedAnswer : Type 0 where
+  pub code : ℕ
+  pub count : ℕ
+  pub settled : ℕ
+  pub values : List Float
+  pub left : List Float
+  pub right : List Float
 
 -- ---- numbers in and out
 
@@ -38,12 +45,12 @@ abbrev pub done_mark : ℕ → ℕ
 done_mark code = mark_of (eqb code 0)
 
 -- refused: only the code and a pivot's number
-abbrev pub refused_kind : Format → ℕ → ℕ → Worked
+abbrev pub refused_kind : Format → ℕ → ℕ → WorkedAnswer
 refused_kind f code pivot = record { code = code; count = pivot; settled = 0; values = zeros f 3; left = zeros f 9; right = zeros f 9 }
 
 -- ---- from the kernels' answers
 
-abbrev pub from_eigen2 : Format → Eigen2 → Worked
+abbrev pub from_eigen2 : Format → Eigen2Answer → WorkedAnswer
 from_eigen2 f r = record {
   code = r.code;
   count = 0;
@@ -53,7 +60,7 @@ from_eigen2 f r = record {
   right = zeros f 9;
 }
 
-abbrev pub from_eigen3 : Format → Eigen3 → Worked
+abbrev pub from_eigen3 : Format → EigenAnswer → WorkedAnswer
 from_eigen3 f r = record {
   code = r.code;
   count = r.made.count;
@@ -63,7 +70,7 @@ from_eigen3 f r = record {
   right = zeros f 9;
 }
 
-abbrev pub from_svd2 : Format → Svd2 → Worked
+abbrev pub from_svd2 : Format → Svd2Answer → WorkedAnswer
 from_svd2 f r = record {
   code = r.code;
   count = 0;
@@ -73,7 +80,7 @@ from_svd2 f r = record {
   right = padded f 9 4 r.v.«data»;
 }
 
-abbrev pub from_svd3 : Format → Svd3 → Worked
+abbrev pub from_svd3 : Format → SvdAnswer → WorkedAnswer
 from_svd3 f r = record {
   code = r.code;
   count = r.made.count;
@@ -84,14 +91,14 @@ from_svd3 f r = record {
 }
 
 -- a factor of s numbers; on refusal its early writes are no answer
-abbrev pub whole_factor : Format → List Float → Worked
+abbrev pub whole_factor : Format → List Float → WorkedAnswer
 whole_factor f left = record { code = 0; count = 0; settled = 1; values = zeros f 3; left = left; right = zeros f 9 }
 
-unfoldable pub from_factor : Format → ℕ → FactorAnswer → Worked
+unfoldable pub from_factor : Format → ℕ → FactorAnswer → WorkedAnswer
 from_factor f s r = pick (eqb r.code 0) (whole_factor f (padded f 9 s r.factor)) (refused_kind f r.code r.pivot)
 
 -- a factor of s numbers and a solution of n
-abbrev pub from_solved : Format → ℕ → ℕ → SolvedAnswer → Worked
+abbrev pub from_solved : Format → ℕ → ℕ → SolvedAnswer → WorkedAnswer
 from_solved f s n r = record {
   code = r.code;
   count = r.pivot;
@@ -109,7 +116,7 @@ used_finite a = all_finite (first_of (kind_numbered a.kind).nine a.nine) && all_
 -- ---- each kernel, and the kinds
 
 -- 3 where there is no kernel
-unfoldable pub answered_by : Format → Kernel → Asked → Worked
+unfoldable pub answered_by : Format → Kernel → Asked → WorkedAnswer
 answered_by f Eigen2x2 a = from_eigen2 f (eigen2_of f (first_of 3 a.nine))
 answered_by f Eigen3x3 a = from_eigen3 f (eigen_of f (first_of 6 a.nine))
 answered_by f Svd2x2 a = from_svd2 f (svd2_of f (first_of 4 a.nine))
@@ -120,5 +127,5 @@ answered_by f Solve2x2 a = from_solved f 3 2 (factor_and_solve2_of f (first_of 3
 answered_by f Solve3x3 a = from_solved f 6 3 (factor_and_solve3_of f (first_of 6 a.nine) (first_of 3 a.three))
 answered_by f Unknown a = refused_kind f 3 0
 
-abbrev pub plain_of : Format → Asked → Worked
+abbrev pub plain_of : Format → Asked → WorkedAnswer
 plain_of f a = answered_by f (kind_numbered a.kind).kernel a

@@ -1,77 +1,100 @@
 // The kinds of requests, one row each.
-ghost use Rattle.std.specs.Prelude.{◌≡◌};
-ghost use Rattle.kinds.specs.Table.{row, kind_numbered, known_kind, known_way};
+ghost use Rattle.std.specs.Prelude.{◌≡◌, MatchResult};
+ghost use Rattle.matrix.specs.declared.codes.Refusal.TheVariants.{UnknownKind};
+ghost use Rattle.kinds.specs.Table.{kind_numbered, unknown};
+ghost use Rattle.kinds.specs.Read.{number_of_kind, row_of, columns, way_of_byte};
 
-// What answers a kind: eigenvalues, singular values, a Cholesky factor, and a factor with a solution, of size 2 or 3.
-#[derive(Clone, Copy)]
-pub enum Kernel {
-    Eigen2x2,
-    Eigen3x3,
-    Svd2x2,
-    Svd3x3,
-    Factor2x2,
-    Factor3x3,
-    Solve2x2,
-    Solve3x3,
-    Unknown,
+use matrix::codes::Refusal;
+
+// A kind, with its number in a request: eigenvalues, singular values, a Cholesky factor, and a factor with a solution, of size 2 or 3.
+#[derive(Clone, Copy, Debug, PartialEq, Eq)]
+pub enum Kind {
+    Eigen2x2 = 1,
+    Eigen3x3 = 2,
+    Svd2x2 = 3,
+    Svd3x3 = 4,
+    Factor2x2 = 5,
+    Factor3x3 = 6,
+    Solve2x2 = 7,
+    Solve3x3 = 8,
 }
 
-// The number in a request, how many numbers the kind uses of the nine and of the three, whether its answer counts rotations,
-// whether its matrix is scaled unless the request's way says no, and its kernel.
-#[derive(Clone, Copy)]
-pub struct Kind {
-    pub number: u8,
+// How many numbers a kind uses of the nine and of the three, whether its answer counts rotations, and whether its matrix is scaled unless the request's
+// way says no.
+#[derive(Clone, Copy, Debug, PartialEq, Eq)]
+pub struct Row {
     pub nine: usize,
     pub three: usize,
     pub counts: bool,
     pub scales: bool,
-    pub kernel: Kernel,
 }
 
-fn row(number: u8, nine: usize, three: usize, counts: bool, scales: bool, kernel: Kernel) -> Kind
-    ensures { result ≡ row number nine three counts scales kernel }
-{
-    Kind {
-        number,
-        nine,
-        three,
-        counts,
-        scales,
-        kernel,
+// How a matrix is worked: scaled, as that of a kind that scales is unless the request says no, or as it is given.
+#[derive(Clone, Copy, Debug, PartialEq, Eq)]
+pub enum Way {
+    Scaled,
+    AsGiven,
+}
+
+impl From<Kind> for u8 {
+    ghost from_gives = { λ k n. n ≡ number_of_kind k };
+
+    fn from(k: Kind) -> u8 {
+        k as u8
     }
 }
 
-// The row of a number; the row of 0 for a number that has none.
-pub fn kind_numbered(n: u8) -> Kind
-    ensures { result ≡ kind_numbered n }
-{
-    match n {
-        1 => row(1, 3, 0, false, true, Kernel::Eigen2x2),
-        2 => row(2, 6, 0, true, true, Kernel::Eigen3x3),
-        3 => row(3, 4, 0, false, true, Kernel::Svd2x2),
-        4 => row(4, 9, 0, true, true, Kernel::Svd3x3),
-        5 => row(5, 3, 0, false, false, Kernel::Factor2x2),
-        6 => row(6, 6, 0, false, false, Kernel::Factor3x3),
-        7 => row(7, 3, 2, false, false, Kernel::Solve2x2),
-        8 => row(8, 6, 3, false, false, Kernel::Solve3x3),
-        _ => row(0, 0, 0, false, false, Kernel::Unknown),
+// A cast goes from a kind to its number alone, so the way back is a list.
+impl TryFrom<u8> for Kind {
+    type Error = Refusal;
+
+    ghost try_from_gives = { λ n r. MatchResult r (λ k. kind_numbered n ≡ row_of k) (λ e. (e ≡ UnknownKind) × (kind_numbered n ≡ unknown)) };
+
+    fn try_from(n: u8) -> Result<Kind, Refusal> {
+        match n {
+            1 => Ok(Kind::Eigen2x2),
+            2 => Ok(Kind::Eigen3x3),
+            3 => Ok(Kind::Svd2x2),
+            4 => Ok(Kind::Svd3x3),
+            5 => Ok(Kind::Factor2x2),
+            6 => Ok(Kind::Factor3x3),
+            7 => Ok(Kind::Solve2x2),
+            8 => Ok(Kind::Solve3x3),
+            _ => Err(Refusal::UnknownKind),
+        }
     }
 }
 
-pub fn is_known(n: u8) -> bool
-    ensures { result ≡ known_kind n }
-{
-    let k = kind_numbered(n);
-    k.number != 0
-}
-
-// Whether the kind has the way: 0, and 1 too where its matrix is scaled.
-pub fn has_way(n: u8, way: u8) -> bool
-    ensures { result ≡ known_way n way }
-{
-    let k = kind_numbered(n);
-    if k.scales {
-        return way <= 1;
+impl Kind {
+    pub fn row(self) -> Row
+        ensures { result ≡ columns (row_of self) }
+    {
+        let (nine, three, counts, scales) = match self {
+            Kind::Eigen2x2 => (3, 0, false, true),
+            Kind::Eigen3x3 => (6, 0, true, true),
+            Kind::Svd2x2 => (4, 0, false, true),
+            Kind::Svd3x3 => (9, 0, true, true),
+            Kind::Factor2x2 => (3, 0, false, false),
+            Kind::Factor3x3 => (6, 0, false, false),
+            Kind::Solve2x2 => (3, 2, false, false),
+            Kind::Solve3x3 => (6, 3, false, false),
+        };
+        Row {
+            nine,
+            three,
+            counts,
+            scales,
+        }
     }
-    way == 0
+
+    // The way that a request's byte names: 0, and 1 too where the kind's matrix is scaled.
+    pub fn way(self, byte: u8) -> Result<Way, Refusal>
+        ensures { result ≡ way_of_byte (row_of self) byte }
+    {
+        match (byte, self.row().scales) {
+            (0, true) => Ok(Way::Scaled),
+            (0, false) | (1, true) => Ok(Way::AsGiven),
+            _ => Err(Refusal::Reserved),
+        }
+    }
 }

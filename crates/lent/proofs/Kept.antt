@@ -1,8 +1,11 @@
 -- What a checked rotation keeps, whatever the rotation: each side of each test keeps it.
-use Rattle.float.proofs.Words.{◌≡◌, refl, true, List, [], ◌∷◌, Float, Format}
+use Rattle.float.proofs.Words.{◌≡◌, refl, sym, ap, ◌∙◌, true, List, [], ◌∷◌, ℕ, arith, Float, Format}
 use Rattle.float.specs.Sign.{all_finite}
 use Rattle.float.proofs.Choice.{chosen, by_test}
-use Rattle.matrix.specs.Answer.{Answer}
+use Rattle.matrix.specs.Answer.{Answer, refused}
+use Rattle.matrix.specs.Codes.{number_of}
+use Rattle.matrix.specs.declared.codes.Refusal.{Refusal}
+use Rattle.matrix.proofs.Refusals.{number_above}
 use Rattle.jacobi.specs.declared.rotation.Rotation.{Rotation}
 use Rattle.eigen.specs.Pairs.{applied_of}
 use Rattle.jacobi.specs.declared.pairs.Pair.{Pair}
@@ -23,3 +26,10 @@ module _ (f : Format) (p : Pair) (r : Rotation) (a : List Float) where
   -- finite numbers stay finite
   pub stays_finite : all_finite a ≡ true → all_finite (rotated_of f p r a).value ≡ true
   stays_finite h = each (λ (w : Answer (List Float)). all_finite w.value ≡ true) (λ new. new) h h
+
+  -- so that a refusal and the old numbers tell all of it
+  pub told_refused : (e : Refusal) → number_of e ≡ (rotated_of f p r a).code → refused (number_of e) a ≡ rotated_of f p r a
+  told_refused e h =
+      let w = rotated_of f p r a in
+      let n = number_above e in
+      ap (λ (k : ℕ). refused k a) h ∙ ap (refused w.code) (sym (unchanged (λ z. omega arith)))

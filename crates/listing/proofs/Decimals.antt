@@ -1,7 +1,9 @@
 -- Whole numbers in decimal: a number below ten is one digit, any other is its tenth part with a digit behind it. So the digits read back give the number.
-use Rattle.float.proofs.Words.{◌≡◌, refl, sym, ap, ◌∙◌, List, [], ◌∷◌, ◌++◌, ℕ, zero, suc, ◌+◌, ◌-◌, ◌*◌, ◌/◌, ◌%◌, ◌^◌, ◌≤◌, ◌<◌, pow-suc, pow-zero}
+use Rattle.float.proofs.Words.{◌≡◌, refl, sym, List, [], ◌∷◌, ◌++◌, ℕ, zero, suc, ◌+◌, ◌-◌, ◌*◌, ◌/◌, ◌%◌, ◌^◌, ◌≤◌, ◌<◌, pow-suc, pow-zero}
 use Rattle.float.proofs.Words.{length, length-append, get_or, get_or-append-add, lt-ltb, le-ltb, arith}
 use lib.ListN.{get_or-append}
+use Rattle.std.specs.Fmt.{decimal}
+use Rattle.std.proofs.lemmas.Fmt.{AppendsLastDigit, decimal_from_appends, length-decimal-le}
 use Rattle.float.proofs.Choice.{either}
 use Rattle.listing.specs.Text.{most_digits, decimal_in, decimal_of, read_behind}
 
@@ -15,21 +17,11 @@ pub decimal_large : (k n : ℕ) → 10 ≤ n → decimal_in (suc k) n ≡ decima
 unfolding decimal_in
 decimal_large k n h = rw (le-ltb n 10 h)
 
--- places that a number does not need change nothing
-pub decimal_wider : (k n : ℕ) → n < 10 ^ suc k → decimal_in (suc k) n ≡ decimal_in (suc (suc k)) n
-decimal_wider zero n h = decimal_small zero n h ∙ sym (decimal_small (suc zero) n h)
-decimal_wider (suc k) n h =
-    let b : n < 10 ^ suc k * 10 = rw pow-suc at h in
-    either n 10
-    (λ l. decimal_small (suc k) n l ∙ sym (decimal_small (suc (suc k)) n l))
-    (λ l.
-    decimal_large (suc k) n l
-    ∙ ap (λ (ds : List ℕ). ds ++ ((48 + n % 10) ∷ [])) (decimal_wider k (n / 10) (omega arith))
-    ∙ sym (decimal_large (suc (suc k)) n l))
-
-pub decimal_more : (n : ℕ) → 10 ≤ n → n < 10 ^ most_digits → decimal_of n ≡ decimal_of (n / 10) ++ ((48 + n % 10) ∷ [])
-decimal_more n h b =
-    decimal_large 19 n h ∙ ap (λ (ds : List ℕ). ds ++ ((48 + n % 10) ∷ [])) (decimal_wider 18 (n / 10) (omega arith))
+-- what `{}` and itoa write
+pub decimal_is : (n : ℕ) → n < 2 ^ 64 → decimal n ≡ decimal_of n
+decimal_is n h =
+    let steps : AppendsLastDigit decimal_in = record { one = decimal_small; more = decimal_large } in
+    sym (decimal_from_appends decimal_in steps most_digits n h (length-decimal-le most_digits n (omega arith) (omega arith) h))
 
 -- ---- how many
 
@@ -51,15 +43,6 @@ digits_below (suc w) (suc k) n h =
     either n 10
     (λ l. rw (decimal_small k n l) (omega arith))
     (λ l. let m = digits_below w k (n / 10) (omega arith) in rw (decimal_large k n l, length-append) (omega arith))
-
-pub digits_more : (n : ℕ) → 10 ≤ n → n < 10 ^ most_digits → length (decimal_of n) ≡ length (decimal_of (n / 10)) + 1
-digits_more n h b = rw (decimal_more n h b, length-append)
-
-pub digits_least : (k n : ℕ) → 1 ≤ length (decimal_in (suc k) n)
-digits_least k n =
-    either n 10
-    (λ l. rw (decimal_small k n l) (omega arith))
-    (λ l. rw (decimal_large k n l, length-append) (omega arith))
 
 -- ---- what they stand for
 

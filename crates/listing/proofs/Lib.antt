@@ -8,4 +8,5 @@ pub mod Written
 pub mod Codes
 pub mod Records
 pub mod Examples
+pub mod Told
 pub mod Unique

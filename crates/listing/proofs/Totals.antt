@@ -1,53 +1,42 @@
 -- Sums that fit 64 bits or not: one that does not fit stays so whatever is added.
-use Rattle.float.proofs.Words.{◌≡◌, sym, ap, ◌∙◌, Bool, true, false, ◌&&◌, and_assoc, and-true, true≢false, List, [], ◌∷◌, ◌++◌, map, ℕ, ◌+◌}
-use Rattle.float.proofs.Words.{◌≤◌, ◌<◌, ◌^◌, arith, add-one, length, get_or, take, take-suc, take-suc-set, set, ltb, lt-ltb, le-ltb, ltb-true}
+use Rattle.float.proofs.Words.{◌≡◌, refl, sym, ap, ◌∙◌, Bool, true, false, ◌&&◌, and_assoc, and-true, List, [], ◌∷◌, ◌++◌, map, ℕ, zero, suc, ◌+◌}
+use Rattle.float.proofs.Words.{◌≤◌, ◌<◌, ◌^◌, arith, add-one, length, length-set, get_or, take, take_all, take-suc, take-suc-set, set, ltb, lt-ltb, le-ltb}
+use Rattle.std.specs.Prelude.{Option, Some, None}
+use Rattle.std.specs.Option.{SomeIff}
 use mathlib.Core.Bool.{and-false}
 use mathlib.Core.List.{map-append}
-use Rattle.float.proofs.Choice.{either}
-use Rattle.float.proofs.Finite.{both_true}
+use Rattle.float.proofs.Choice.{either, whether}
 use Rattle.counts.specs.Known.{codes}
-use Rattle.counts.specs.Cells.{up_to, foreign_at}
+use Rattle.counts.specs.Cells.{up_to, columns, foreign_at}
 use Rattle.counts.specs.Tally.{total, all_fit}
-use Rattle.listing.specs.Page.{totals_of, records_in}
-use Rattle.listing.specs.Sums.{sum_in}
-use Rattle.listing.specs.declared.sums.Sum.{Sum}
+use Rattle.float.specs.Choice.{pick}
+use Rattle.listing.specs.Page.{total_of, totals_of, records_in}
+use Rattle.listing.specs.Sums.{sum_in, totals_in}
 
 -- ---- a sum in 64 bits
 
-sum_fits : (n : ℕ) → n < 2 ^ 64 → sum_in n ≡ record { fits = true; n = n }
+sum_fits : (n : ℕ) → n < 2 ^ 64 → sum_in n ≡ Some n
 unfolding sum_in
 sum_fits n h = rw (lt-ltb n (2 ^ 64) h)
 
-sum_past : (n : ℕ) → 2 ^ 64 ≤ n → sum_in n ≡ record { fits = false; n = 0 }
+pub sum_fits_is : (n m : ℕ) → m ≡ n → m < 2 ^ 64 → Some m ≡ sum_in n
+sum_fits_is n m e h = rw e (sym (sum_fits n (omega arith)))
+
+pub sum_past : (n : ℕ) → 2 ^ 64 ≤ n → sum_in n ≡ None
 unfolding sum_in
 sum_past n h = rw (le-ltb n (2 ^ 64) h)
 
-fits_of : (n : ℕ) → (sum_in n).fits ≡ ltb n (2 ^ 64)
-fits_of n =
-    either n (2 ^ 64)
-    (λ l. rw (sum_fits n l, lt-ltb n (2 ^ 64) l))
-    (λ l. rw (sum_past n l, le-ltb n (2 ^ 64) l))
+-- what `checked_add` gives
+pub checked : (o : Option ℕ) (n : ℕ) → SomeIff o (n < 2 ^ 64) n → o ≡ sum_in n
+checked None n h = sym (sum_past n (omega arith))
+checked (Some m) n h = ap Some h.1 ∙ sym (sum_fits n h.0)
 
--- a sum that fits is the number
-number_of : (n : ℕ) → (sum_in n).fits ≡ true → (sum_in n).n ≡ n
-number_of n h = let l = ltb-true n (2 ^ 64) (sym (fits_of n) ∙ h) in rw (sum_fits n l)
+pub has_sum : (n m : ℕ) → sum_in n ≡ Some m → (n < 2 ^ 64) × (m ≡ n)
+has_sum n m e =
+    either n (2 ^ 64) (λ l. let s : Some n ≡ Some m = sym (sum_fits n l) ∙ e in (l, cc)) (λ l. let s : None ≡ Some m = sym (sum_past n l) ∙ e in absurd (cc))
 
--- ---- one count more
-
-pub plus_none : (s : Sum) (n : ℕ) → s.fits ≡ false → (m : ℕ) → s ≡ sum_in m → s ≡ sum_in (m + n)
-plus_none s n h m e =
-    either m (2 ^ 64)
-    (λ l. absurd (true≢false (sym (ap (λ (q : Sum). q.fits) (e ∙ sum_fits m l)) ∙ h)))
-    (λ l. e ∙ sum_past m l ∙ sym (sum_past (m + n) (omega arith)))
-
-pub held : (s : Sum) (m : ℕ) → s.fits ≡ true → s ≡ sum_in m → s.n ≡ m
-held s m h e = ap (λ (q : Sum). q.n) e ∙ number_of m (sym (ap (λ (q : Sum). q.fits) e) ∙ h)
-
-pub plus_past : (s : Sum) (n : ℕ) → s.fits ≡ true → 2 ^ 64 ≤ s.n + n → (m : ℕ) → s ≡ sum_in m → record { fits = false; n = 0 } ≡ sum_in (m + n)
-plus_past s n h l m e = sym (sum_past (m + n) (omega (arith, held s m h e)))
-
-pub plus_fits : (s : Sum) (n : ℕ) → s.fits ≡ true → s.n + n < 2 ^ 64 → (m : ℕ) → s ≡ sum_in m → record { fits = true; n = s.n + n } ≡ sum_in (m + n)
-plus_fits s n h l m e = rw (held s m h e) (sym (sum_fits (m + n) (omega (arith, held s m h e))))
+pub no_sum : (n : ℕ) → sum_in n ≡ None → 2 ^ 64 ≤ n
+no_sum n e = either n (2 ^ 64) (λ l. let s : Some n ≡ None = sym (sum_fits n l) ∙ e in absurd (cc)) (λ l. l)
 
 -- ---- sums of lists
 
@@ -60,9 +49,21 @@ sum_more (m ∷ ns) n = rw (sum_more ns n) (omega arith)
 pub sum_up_to : (f : ℕ → ℕ) (k : ℕ) → total (map f (up_to (k + 1))) ≡ total (map f (up_to k)) + f k
 sum_up_to f k = rw (add-one, map-append) (sum_more (map f (up_to k)) (f k))
 
+pub sum_grows : (f : ℕ → ℕ) (k n : ℕ) → k ≤ n → total (map f (up_to k)) ≤ total (map f (up_to n))
+sum_grows f k zero h = let e : k ≡ 0 = omega arith in rw e (omega arith)
+sum_grows f k (suc n) h =
+    whether k (suc n) (λ e. rw e (omega arith))
+    (λ ne. let g = sum_grows f k n (omega arith) in let m = rw add-one at (sum_up_to f n) in omega (arith, m))
+
 -- the first numbers of a list
 pub sum_front : (ns : List ℕ) (k : ℕ) → k < length ns → total (take (k + 1) ns) ≡ total (take k ns) + get_or ns k 0
 sum_front ns k h = rw (add-one, take-suc ns k 0 h) (sum_more (take k ns) (get_or ns k 0))
+
+pub front_most : (ns : List ℕ) (k : ℕ) → total (take k ns) ≤ total ns
+unfolding total
+front_most ns zero = omega arith
+front_most [] (suc k) = omega arith
+front_most (n ∷ ns) (suc k) = omega (arith, front_most ns k)
 
 -- ---- all fit
 
@@ -71,25 +72,55 @@ unfolding all_fit
 fit_more [] n = and-true (ltb n (2 ^ 64))
 fit_more (m ∷ ns) n = rw (fit_more ns n) (sym (and_assoc (ltb m (2 ^ 64)) (all_fit ns) (ltb n (2 ^ 64))))
 
--- the first k totals, where they fit
-abbrev pub Held : (ℕ → ℕ) → ℕ → Bool → List ℕ → Type 0
-Held f k fit totals = (fit ≡ all_fit (map f (up_to k))) × (fit ≡ true → take k totals ≡ map f (up_to k))
+module _ (f : ℕ → ℕ) where
+  fit_up_to : (k : ℕ) → all_fit (map f (up_to (suc k))) ≡ all_fit (map f (up_to k)) && ltb (f k) (2 ^ 64)
+  fit_up_to k = rw map-append (fit_more (map f (up_to k)) (f k))
 
--- one total more
-pub held_more : (f : ℕ → ℕ) (k : ℕ) (fit fit' : Bool) (totals : List ℕ) (s : Sum) → k < length totals → s ≡ sum_in (f k) → fit' ≡ fit && s.fits
-    → Held f k fit totals → Held f (k + 1) fit' (set totals k s.n)
-held_more f k fit fit' totals s l e b h = (
-  b ∙ (rw (h.0, e, fits_of (f k), add-one, map-append) (sym (fit_more (map f (up_to k)) (f k)))),
-  λ yes.
-      let two = both_true fit s.fits (sym b ∙ yes) in
-      let n : s.n ≡ f k = held s (f k) two.1 e in
-      rw (add-one, take-suc-set totals k s.n l, map-append, h.1 two.0, n),
-)
+  -- the first k numbers, which all fit
+  pub record Held (k : ℕ) (held : List ℕ) : Type 0 where
+    pub long : length held ≡ columns
+    pub fit : all_fit (map f (up_to k)) ≡ true
+    pub front : take k held ≡ map f (up_to k)
+
+  -- one number more
+  pub held_more : (k n : ℕ) (held : List ℕ) → k < columns → (f k < 2 ^ 64) × (n ≡ f k) → Held k held → Held (k + 1) (set held k n)
+  held_more k n held l e h = record {
+    long = rw length-set h.long;
+    fit = rw (add-one, fit_up_to k, h.fit) (lt-ltb (f k) (2 ^ 64) e.0);
+    front = rw (add-one, take-suc-set held k n (omega (arith, h.long)), map-append, h.front, e.1);
+  }
+
+  -- one that does not fit
+  pub one_past : (k n : ℕ) → k < n → 2 ^ 64 ≤ f k → all_fit (map f (up_to n)) ≡ false
+  one_past k zero h p = absurd (omega arith)
+  one_past k (suc n) h p =
+      whether k n (λ e. rw (fit_up_to n, ← e, le-ltb (f k) (2 ^ 64) p) (and-false (all_fit (map f (up_to k)))))
+      (λ ne. rw (fit_up_to n, one_past k n (omega arith) p))
+
+pub all_held : (t totals : List ℕ) → Held (total_of t) columns totals → Some totals ≡ totals_in t
+all_held t totals h = rw h.fit (ap Some (sym (take_all columns totals (omega (arith, h.long))) ∙ h.front))
+
+pub some_past : (t : List ℕ) (k : ℕ) → k < columns → 2 ^ 64 ≤ total_of t k → totals_in t ≡ None
+some_past t k l p = rw (one_past (total_of t) k columns l p)
+
+-- the totals, or one of them passes
+pub has_totals : (t totals : List ℕ) → totals_in t ≡ Some totals → (all_fit (totals_of t) ≡ true) × (totals ≡ totals_of t)
+has_totals t totals = by (all_fit (totals_of t))
+  where
+    by : (b : Bool) → pick b (Some (totals_of t)) None ≡ Some totals → (b ≡ true) × (totals ≡ totals_of t)
+    by true e = (refl, cc)
+    by false e = absurd (cc)
+
+pub no_totals : (t : List ℕ) → totals_in t ≡ None → all_fit (totals_of t) ≡ false
+no_totals t = by (all_fit (totals_of t))
+  where
+    by : (b : Bool) → pick b (Some (totals_of t)) None ≡ None → b ≡ false
+    by true e = absurd (cc)
+    by false e = refl
 
 -- all records, from the totals
-pub records_of_lem : (t totals : List ℕ) (s : Sum) → totals ≡ totals_of t → s ≡ sum_in (total (take (length codes) totals) + get_or t foreign_at 0)
-    → s ≡ sum_in (records_in t)
-records_of_lem t totals s e h = rw e at h
+pub records_of_lem : (t totals : List ℕ) → totals ≡ totals_of t → total (take (length codes) totals) + get_or t foreign_at 0 ≡ records_in t
+records_of_lem t totals e = rw e
 
 -- ---- a sum in front of the totals
 
@@ -97,10 +128,10 @@ pub totals_past : (n : ℕ) (ns : List ℕ) → all_fit ns ≡ false → all_fit
 unfolding all_fit
 totals_past n ns h = rw h (and-false (ltb n (2 ^ 64)))
 
-pub first_past : (n : ℕ) (ns : List ℕ) → (sum_in n).fits ≡ false → all_fit (n ∷ ns) ≡ false
+pub first_past : (n : ℕ) (ns : List ℕ) → 2 ^ 64 ≤ n → all_fit (n ∷ ns) ≡ false
 unfolding all_fit
-first_past n ns h = let e : ltb n (2 ^ 64) ≡ false = sym (fits_of n) ∙ h in rw e
+first_past n ns h = rw (le-ltb n (2 ^ 64) h)
 
-pub both_fit : (n : ℕ) (ns : List ℕ) → (sum_in n).fits ≡ true → all_fit ns ≡ true → all_fit (n ∷ ns) ≡ true
+pub both_fit : (n : ℕ) (ns : List ℕ) → n < 2 ^ 64 → all_fit ns ≡ true → all_fit (n ∷ ns) ≡ true
 unfolding all_fit
-both_fit n ns h k = let e : ltb n (2 ^ 64) ≡ true = sym (fits_of n) ∙ h in rw (e, k)
+both_fit n ns h k = rw (lt-ltb n (2 ^ 64) h, k)

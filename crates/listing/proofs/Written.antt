@@ -1,18 +1,10 @@
 -- What the call leaves, by the tests that were made.
-use Rattle.float.proofs.Words.{◌≡◌, true, false, List, ◌++◌, ◌∷◌, ℕ, ◌≤◌, ◌<◌, length, drop, le-leb, lt-leb, eq-eqb, ne_eqb}
+use Rattle.float.proofs.Words.{◌≡◌, true, false, List, ◌++◌, ◌∷◌, ℕ, ◌≤◌, length, drop, le-leb, eq-eqb}
 use Rattle.counts.specs.Cells.{tally_size}
 use Rattle.counts.specs.Tally.{all_fit}
 use Rattle.listing.specs.Page.{totals_of, records_in, listing_of, listing_most, refused_listing, written_of}
 
 module _ (t out : List ℕ) where
-  pub written_short : length out < listing_most → written_of t out ≡ refused_listing 2 out
-  unfolding written_of
-  written_short h = rw (lt-leb listing_most (length out) h)
-
-  pub written_wrong : listing_most ≤ length out → (length t ≡ tally_size → ⊥) → written_of t out ≡ refused_listing 1 out
-  unfolding written_of
-  written_wrong h n = rw (le-leb listing_most (length out) h, ne_eqb (length t) tally_size n)
-
   pub written_past : listing_most ≤ length out → length t ≡ tally_size → all_fit (records_in t ∷ totals_of t) ≡ false → written_of t out
       ≡ refused_listing 14 out
   unfolding written_of

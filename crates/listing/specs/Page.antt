@@ -1,13 +1,14 @@
 -- The listing of a tally: a line for each row, the totals, and a line for each number of rotations. Definitions only.
-use Rattle.std.specs.Prelude.{◌≡◌, List, [], ◌∷◌, ◌++◌, map, ℕ, suc, ◌+◌, ◌*◌, eqb, leb, length, get_or, drop}
+use Rattle.std.specs.Prelude.{◌≡◌, Result, List, [], ◌∷◌, ◌++◌, map, ℕ, suc, ◌+◌, ◌*◌, eqb, leb, length, get_or, drop}
 use Rattle.float.specs.Choice.{pick}
 use Rattle.kinds.specs.Table.{kinds}
+use Rattle.matrix.specs.Codes.{told}
+use Rattle.matrix.specs.declared.codes.Refusal.{Refusal}
 use Rattle.wire.specs.Bytes.{part}
 use Rattle.counts.specs.Known.{codes, marks, most_turns}
 use Rattle.counts.specs.Cells.{up_to, row_numbers, turning, columns, turns_at, foreign_at, left_at, tally_size}
 use Rattle.counts.specs.Tally.{total, all_fit}
 use Rattle.listing.specs.Text.{word_bytes, decimal_of, line_of, counts_line, lines_of}
-use Rattle.listing.specs.declared.page.Listed.{Listed}
 
 -- ---- the numbers
 
@@ -88,6 +89,11 @@ listing_of t = rows_text t ++ (sums_text t ++ turns_text t)
 abbrev pub listing_most : ℕ
 listing_most = 4096
 
+-- a code, and how many bytes are written
+pub record Listed : Type 0 where
+  pub code : ℕ
+  pub size : ℕ
+
 pub record Written : Type 0 where
   pub listed : Listed
   pub out : List ℕ
@@ -108,6 +114,10 @@ written_of t out =
     (refused_listing 14 out))
     (refused_listing 1 out))
     (refused_listing 2 out)
+
+-- what is told of an answer: 0 and the size, or the code of its refusal
+abbrev pub listed_of : Result ℕ Refusal → Listed
+listed_of r = told refused_with (λ (n : ℕ). record { code = 0; size = n }) r
 
 -- what the call promises: the code and the size handed back, and the output at exit
 abbrev pub Wrote : Written → Listed → List ℕ → Type 0

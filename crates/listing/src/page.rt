@@ -1,110 +1,72 @@
 // The listing of a tally.
-ghost use Rattle.std.specs.Prelude.{◌≡◌, [], ◌∷◌, ◌≤◌, length};
-ghost use Rattle.counts.specs.Cells.{tally_size};
-ghost use Rattle.listing.specs.Text.{counts_line};
-ghost use Rattle.listing.specs.Putting.{Room, Puts};
-ghost use Rattle.listing.specs.Page.{totals_of, records_in, rows_text, sums_text, turns_text, listing_of, listing_most, refused_with, written_of, Wrote};
+ghost use Rattle.std.specs.Prelude.{◌≡◌, ◌++◌};
+ghost use Rattle.listing.specs.Putting.{Room};
+ghost use Rattle.listing.specs.Page.{totals_of, records_in, rows_text, sums_text, turns_text, listing_of, written_of, listed_of, Wrote};
 
-use crate::sums::{put_totals, records};
-use crate::text::{put_block, put_bytes, put_line};
-use counts::cells::{COLUMNS, FOREIGN_AT, LEFT_AT, ROWS, TALLY_SIZE, TURNING, TURNS_AT};
-use counts::known::MOST_TURNS;
-use matrix::codes::{COUNT_TOO_LARGE, DONE, INPUT_LENGTH, OUTPUT_LENGTH};
-
-// The code of a call, and how many bytes it wrote.
-#[derive(Clone, Copy)]
-pub struct Listed {
-    pub code: u8,
-    pub size: usize,
-}
+use crate::sums::{records, totals};
+use crate::text::{Page, put_block, put_line};
+use counts::cells::{COLUMNS, FOREIGN_AT, LEFT_AT, TALLY_SIZE, TURNING, TURNS_AT};
+use matrix::codes::Refusal;
 
 // No listing is longer.
 pub const LISTING_MOST: usize = 4096;
 
-// A line of one count under a name.
-fn put_count(out: &mut [u8], at: usize, name: &[u8], count: u64) -> usize
-    requires { Room out.old at (counts_line name.now (count ∷ [])) }
-    ensures { Puts out.old at (counts_line name.now (count ∷ [])) result out.new }
-{
-    let one = [count];
-    put_line(out, at, name, &one)
-}
-
 // The lines of the rows, and the totals.
-fn put_rows(out: &mut [u8], at: usize, counts: &[u64], totals: &[u64]) -> usize
-    requires { (Room out.old at (rows_text counts.now)) × (length counts.now ≡ tally_size) × (totals.now ≡ totals_of counts.now) }
-    ensures { Puts out.old at (rows_text counts.now) result out.new }
+fn put_rows(page: &mut Page, counts: &[u64; TALLY_SIZE], totals: &[u64; COLUMNS])
+    requires { (Room page.old.bytes (rows_text counts.now)) × (totals.now ≡ totals_of counts.now) }
+    ensures { page.new.bytes ≡ page.old.bytes ++ rows_text counts.now }
 {
-    let mut end = put_bytes(
-        out,
-        at,
-        b"kind\tcode 0\tcode 1\tcode 3\tcode 4\tcode 5\tcode 6\tcode 7\tcode 9\tsettled\tunsettled\n",
+    page.push_str(
+        "kind\tcode 0\tcode 1\tcode 3\tcode 4\tcode 5\tcode 6\tcode 7\tcode 9\tsettled\tunsettled\n",
     );
-    end = put_block(out, end, counts, 1, COLUMNS, COLUMNS, ROWS - 1);
-    end = put_line(out, end, b"other", &counts[..COLUMNS]);
-    put_line(out, end, b"total", totals)
+    let (kinds, _) = counts[COLUMNS..TURNS_AT].as_chunks::<COLUMNS>();
+    put_block(page, 1, kinds);
+    put_line(page, "other", &counts[..COLUMNS]);
+    put_line(page, "total", totals);
 }
 
-fn put_sums(out: &mut [u8], at: usize, counts: &[u64], records: u64) -> usize
-    requires { (Room out.old at (sums_text counts.now)) × (length counts.now ≡ tally_size) × (records ≡ records_in counts.now) }
-    ensures { Puts out.old at (sums_text counts.now) result out.new }
+fn put_sums(page: &mut Page, counts: &[u64; TALLY_SIZE], records: u64)
+    requires { (Room page.old.bytes (sums_text counts.now)) × (records ≡ records_in counts.now) }
+    ensures { page.new.bytes ≡ page.old.bytes ++ sums_text counts.now }
 {
-    let mut end = put_count(out, at, b"records", records);
-    end = put_count(out, end, b"foreign", counts[FOREIGN_AT]);
-    put_count(out, end, b"left over", counts[LEFT_AT])
+    put_line(page, "records", &[records]);
+    put_line(page, "foreign", &[counts[FOREIGN_AT]]);
+    put_line(page, "left over", &[counts[LEFT_AT]]);
 }
 
 // A line for each number of rotations.
-fn put_turns(out: &mut [u8], at: usize, counts: &[u64]) -> usize
-    requires { (Room out.old at (turns_text counts.now)) × (length counts.now ≡ tally_size) }
-    ensures { Puts out.old at (turns_text counts.now) result out.new }
+fn put_turns(page: &mut Page, counts: &[u64; TALLY_SIZE])
+    requires { Room page.old.bytes (turns_text counts.now) }
+    ensures { page.new.bytes ≡ page.old.bytes ++ turns_text counts.now }
 {
-    let end = put_bytes(out, at, b"turns\tkind 2\tkind 4\n");
-    put_block(
-        out,
-        end,
-        counts,
-        0,
-        TURNS_AT,
-        TURNING,
-        MOST_TURNS as usize + 1usize,
-    )
+    page.push_str("turns\tkind 2\tkind 4\n");
+    let (turns, _) = counts[TURNS_AT..FOREIGN_AT].as_chunks::<TURNING>();
+    put_block(page, 0, turns);
 }
 
-fn put_listing(out: &mut [u8], counts: &[u64], totals: &[u64], records: u64) -> usize
-    requires listing_most_in_bounds { (listing_most ≤ length out.old) × (length counts.now ≡ tally_size) }
-    requires totals_value { (totals.now ≡ totals_of counts.now) × (records ≡ records_in counts.now) }
-    ensures { Puts out.old 0 (listing_of counts.now) result out.new }
+fn page_of(counts: &[u64; TALLY_SIZE], totals: &[u64; COLUMNS], records: u64) -> Page
+    requires { (totals.now ≡ totals_of counts.now) × (records ≡ records_in counts.now) }
+    ensures { result.bytes ≡ listing_of counts.now }
 {
-    let rows_end = put_rows(out, 0, counts, totals);
-    let sums_end = put_sums(out, rows_end, counts, records);
-    put_turns(out, sums_end, counts)
+    let mut page = Page::new();
+    put_rows(&mut page, counts, totals);
+    put_sums(&mut page, counts, records);
+    put_turns(&mut page, counts);
+    page
 }
 
-fn refused(code: u8) -> Listed
-    ensures { result ≡ refused_with code }
-{
-    Listed { code, size: 0 }
-}
-
-// The listing of the counts of a tally, from the start of the output on.
-pub fn listing(counts: &[u64], out: &mut [u8]) -> Listed
-    ensures { Wrote (written_of counts.now out.old) result out.new }
+// The listing of the counts of a tally, from the start of the output on, and how long it is.
+#[tactic(auto, unfolding(crate::specs::Page::written_of))]
+pub fn listing(counts: &[u64], out: &mut [u8]) -> Result<usize, Refusal>
+    ensures { Wrote (written_of counts.now out.old) (listed_of result) out.new }
 {
     if out.len() < LISTING_MOST {
-        return refused(OUTPUT_LENGTH);
+        return Err(Refusal::OutputLength);
     }
-    if counts.len() != TALLY_SIZE {
-        return refused(INPUT_LENGTH);
-    }
-    let mut totals = [0u64; COLUMNS];
-    if !put_totals(counts, &mut totals) {
-        return refused(COUNT_TOO_LARGE);
-    }
-    let all = records(&totals, counts[FOREIGN_AT]);
-    if !all.fits {
-        return refused(COUNT_TOO_LARGE);
-    }
-    let size = put_listing(out, counts, &totals, all.n);
-    Listed { code: DONE, size }
+    let counts = counts.as_array().ok_or(Refusal::InputLength)?;
+    let totals = totals(counts).ok_or(Refusal::CountTooLarge)?;
+    let records = records(&totals, counts[FOREIGN_AT]).ok_or(Refusal::CountTooLarge)?;
+    let page = page_of(counts, &totals, records);
+    out[..page.len()].copy_from_slice(page.as_bytes());
+    Ok(page.len())
 }

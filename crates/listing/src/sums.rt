@@ -1,86 +1,44 @@
 // Sums of counts, which can pass 64 bits.
-ghost use Rattle.std.specs.Prelude.{◌≡◌, ◌&&◌, ℕ, ◌+◌, ◌<◌, length, take};
+ghost use Rattle.std.specs.Prelude.{◌≡◌, ◌+◌, ◌<◌, length, take};
 ghost use Rattle.counts.specs.Known.{codes};
-ghost use Rattle.counts.specs.Cells.{columns, tally_size};
+ghost use Rattle.counts.specs.Cells.{columns};
 ghost use Rattle.counts.specs.Tally.{total};
 ghost use Rattle.listing.specs.Page.{total_of};
-ghost use Rattle.listing.specs.Sums.{sum_in, Totalled};
+ghost use Rattle.listing.specs.Sums.{sum_in, totals_in};
 
-use counts::cells::{COLUMNS, ROWS};
+use counts::cells::{COLUMNS, ROWS, TALLY_SIZE};
 use counts::known::CODES;
 
-// A sum; 0 where it does not fit.
-#[derive(Clone, Copy)]
-pub struct Sum {
-    pub fits: bool,
-    pub n: u64,
-}
-
-// A sum and one count more.
-fn plus(s: Sum, n: u64) -> Sum
-    ensures { (m : ℕ) → s ≡ sum_in m → result ≡ sum_in (m + n) }
-{
-    if !s.fits {
-        return s;
-    }
-    if n > u64::MAX - s.n {
-        return Sum { fits: false, n: 0 };
-    }
-    Sum {
-        fits: true,
-        n: s.n + n,
-    }
-}
-
-// The sum of a column over all rows.
-fn total(counts: &[u64], column: usize) -> Sum
-    requires { (length counts.now ≡ tally_size) × (column < columns) }
+// The sum of a column over all rows, if it fits. A column is no slice of the counts, so the row's number makes each place.
+fn total(counts: &[u64; TALLY_SIZE], column: usize) -> Option<u64>
+    requires { column < columns }
     ensures { result ≡ sum_in (total_of counts.now column) }
 {
-    let mut s = Sum { fits: true, n: 0 };
-    let mut row = 0usize;
-    while row < ROWS {
-        s = plus(s, counts[COLUMNS * row + column]);
-        row += 1usize;
+    let mut sum = 0u64;
+    for row in 0..ROWS {
+        sum = sum.checked_add(counts[COLUMNS * row + column])?;
     }
-    s
+    Some(sum)
 }
 
-fn both(a: bool, b: bool) -> bool
-    ensures { result ≡ a && b }
+// All totals, if each of them fits.
+pub(crate) fn totals(counts: &[u64; TALLY_SIZE]) -> Option<[u64; COLUMNS]>
+    ensures { result ≡ totals_in counts.now }
 {
-    if a {
-        return b;
+    let mut totals = [0; COLUMNS];
+    for (column, sum) in totals.iter_mut().enumerate() {
+        *sum = total(counts, column)?;
     }
-    false
-}
-
-// All totals; says whether each of them fits.
-pub(crate) fn put_totals(counts: &[u64], totals: &mut [u64]) -> bool
-    requires { (length counts.now ≡ tally_size) × (length totals.old ≡ columns) }
-    ensures { Totalled counts.now result totals.new }
-{
-    let mut fit = true;
-    let mut column = 0usize;
-    while column < COLUMNS {
-        let s = total(counts, column);
-        totals[column] = s.n;
-        fit = both(fit, s.fits);
-        column += 1usize;
-    }
-    fit
+    Some(totals)
 }
 
 // All records: the totals of the codes, and the foreign ones.
-pub(crate) fn records(totals: &[u64], foreign: u64) -> Sum
-    requires { length totals.now ≡ columns }
+pub(crate) fn records(totals: &[u64; COLUMNS], foreign: u64) -> Option<u64>
     ensures { result ≡ sum_in (total (take (length codes) totals.now) + foreign) }
 {
-    let mut s = Sum { fits: true, n: 0 };
-    let mut code = 0usize;
-    while code < CODES {
-        s = plus(s, totals[code]);
-        code += 1usize;
+    let mut sum = 0u64;
+    for n in &totals[..CODES] {
+        sum = sum.checked_add(*n)?;
     }
-    plus(s, foreign)
+    sum.checked_add(foreign)
 }

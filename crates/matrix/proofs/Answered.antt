@@ -1,11 +1,11 @@
 -- A place is answered exactly where its row and its column are below the size; what is read or written there goes by the same two tests.
-use Rattle.float.proofs.Words.{◌≡◌, refl, sym, ap, ◌∙◌, Bool, true, false, ℕ, ◌*◌, ◌≤◌, ◌<◌, arith, ltb, ltb-true, lt-ltb, le-ltb}
+use Rattle.float.proofs.Words.{◌≡◌, refl, sym, ap, ◌∙◌, Bool, true, false, ℕ, ◌*◌, ◌<◌, arith, ltb, ltb-true, lt-ltb}
 use Rattle.float.specs.Choice.{pick}
+use Rattle.float.proofs.Choice.{by_ltb}
+use Rattle.std.specs.Prelude.{Option, Some, None}
 use Rattle.matrix.specs.Answer.{Answer, done, refused, place}
 use Rattle.matrix.specs.Places.{square_index, triangular, packed_index}
 use Rattle.matrix.specs.Indexed.{inside, index_of}
-use Rattle.matrix.specs.declared.answers.Place.{Place}
-use Rattle.matrix.specs.declared.answers.Place.TheVariants.{At, Outside}
 use Rattle.matrix.proofs.Placing.{square_below, packed_below}
 
 -- ---- what the answer says of its code and value
@@ -26,17 +26,15 @@ module _ (n r c : ℕ) where
   unfolding inside
   within x z h k = rw (lt-ltb r n h, lt-ltb c n k)
 
-  pub row_outside : {A : Type 0} (x z : A) → n ≤ r → refused 8 z ≡ inside n r c x z
+  pub outside : {A : Type 0} (x z : A) → ((r < n) × (c < n) → ⊥) → refused 8 z ≡ inside n r c x z
   unfolding inside
-  row_outside x z h = rw (le-ltb r n h)
-
-  pub column_outside : {A : Type 0} (x z : A) → r < n → n ≤ c → refused 8 z ≡ inside n r c x z
-  unfolding inside
-  column_outside x z h k = rw (lt-ltb r n h, le-ltb c n k)
+  outside x z h =
+      by_ltb (λ (a : Answer _). refused 8 z ≡ a) r n (pick (ltb c n) (done x) (refused 8 z)) (refused 8 z)
+      (λ l. by_ltb (λ (a : Answer _). refused 8 z ≡ a) c n (done x) (refused 8 z) (λ k. absurd (h (l, k))) (λ k. refl)) (λ l. refl)
 
   -- ---- a place that was answered
 
-  pub found : {p : Place} {i : ℕ} (k : ℕ) → p ≡ At i → place p ≡ index_of n r c k → Found n r c i k
+  pub found : {p : Option ℕ} {i : ℕ} (k : ℕ) → p ≡ Some i → place p ≡ index_of n r c k → Found n r c i k
   unfolding inside
   found {i = i} k a h = go (ltb r n) (ltb c n) refl refl (sym (ap place a) ∙ h)
     where
@@ -45,15 +43,15 @@ module _ (n r c : ℕ) where
       go true false d e h = absurd (never h)
       go false u d e h = absurd (never h)
 
-  pub found_square : {p : Place} {i : ℕ} → p ≡ At i → place p ≡ index_of n r c (square_index n r c) → i < n * n
+  pub found_square : {p : Option ℕ} {i : ℕ} → p ≡ Some i → place p ≡ index_of n r c (square_index n r c) → i < n * n
   found_square a h = let f = found (square_index n r c) a h in rw f.is (square_below f.row f.column)
 
-  pub found_packed : {p : Place} {i : ℕ} → p ≡ At i → place p ≡ index_of n r c (packed_index r c) → i < triangular n
+  pub found_packed : {p : Option ℕ} {i : ℕ} → p ≡ Some i → place p ≡ index_of n r c (packed_index r c) → i < triangular n
   found_packed a h = let f = found (packed_index r c) a h in rw f.is (packed_below f.row f.column)
 
   -- ---- a place that was refused
 
-  pub refused_too : {A : Type 0} {p : Place} (k : ℕ) (x z : A) → p ≡ Outside → place p ≡ index_of n r c k → refused 8 z ≡ inside n r c x z
+  pub refused_too : {A : Type 0} {p : Option ℕ} (k : ℕ) (x z : A) → p ≡ None → place p ≡ index_of n r c k → refused 8 z ≡ inside n r c x z
   unfolding inside
   refused_too k x z o e = go (ltb r n) (ltb c n) (sym (ap place o) ∙ e)
     where

@@ -1,10 +1,13 @@
 pub mod Tables
+pub mod Stored
+pub mod Underway
+pub mod Refusals
 pub mod Placing
 pub mod Rows
 pub mod Owed
 pub mod Calls
 pub mod Answered
-pub mod Moves
-pub mod Sums
 pub mod Readings
 pub mod Unique
+pub mod Moves
+pub mod Sums

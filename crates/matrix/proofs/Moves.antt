@@ -1,11 +1,11 @@
 -- A square list is the table of its entries, since i = i % n + (i / n) * n; so a move that is done twice is undone entry by entry.
-use Rattle.float.proofs.Words.{◌≡◌, refl, sym, ap, ◌∙◌, subst, Bool, true, false, List, ℕ, zero, suc, ◌*◌, ◌/◌, ◌%◌, ◌≤◌, ◌<◌, mod-lt, div-add-mod'}
+use Rattle.float.proofs.Words.{◌≡◌, refl, sym, ap, ◌∙◌, subst, Bool, true, false, List, ℕ, zero, suc, ◌*◌, ◌/◌, ◌%◌, ◌<◌, mod-lt, div-add-mod'}
 use Rattle.float.proofs.Words.{div-lt_iff_lt-mul, div-eq_of_lt, mod-eq_of_lt, add-mul-div_right, add-mul-mod_self_right, arith, eqb, length, Float, neg, eq-eqb}
 use Rattle.float.proofs.Words.{ne_eqb}
 use Rattle.float.specs.Choice.{pick}
 use Rattle.float.specs.Sign.{finite, all_finite}
 use Rattle.float.proofs.Finite.{at-finite, finite-neg}
-use Rattle.float.proofs.Choice.{either, chosen, by_eqb}
+use Rattle.float.proofs.Choice.{chosen, by_eqb}
 use Rattle.float.proofs.Negation.{neg_twice}
 use Rattle.matrix.specs.Places.{at, square_index}
 use Rattle.matrix.specs.Square.{square_of, entry_of, transpose_of, exchanged, exchange_of, negate_of}
@@ -35,6 +35,13 @@ pub square_same : (n : ℕ) (g h : ℕ → ℕ → Float) → ((r c : ℕ) → r
 square_same n g h same =
     tabulate-same (n * n) (λ (i : ℕ). g (i % n) (i / n)) (λ (i : ℕ). h (i % n) (i / n))
     (λ i l. same (i % n) (i / n) (mod-lt i (size_above n i l)) (column_below n i l))
+
+-- a list that has at each place the number g of its row and column
+pub square_made : (n : ℕ) (g : ℕ → ℕ → Float) (xs : List Float) → length xs ≡ n * n
+    → ((i : ℕ) → i < n * n → i % n < n → i / n < n → at xs i ≡ g (i % n) (i / n)) → xs ≡ square_of n g
+square_made n g xs e same =
+    sym (tabulate_all (n * n) xs e)
+    ∙ tabulate-same (n * n) (at xs) (λ (i : ℕ). g (i % n) (i / n)) (λ i l. same i l (mod-lt i (size_above n i l)) (column_below n i l))
 
 pub square_eta : (n : ℕ) (xs : List Float) → length xs ≡ n * n → square_of n (entry_of n xs) ≡ xs
 square_eta n xs e =
@@ -97,27 +104,6 @@ exchange_twice n i j xs h k e =
     (λ r c l m.
     entry_of_lem n (λ (r c : ℕ). entry_of n xs r (exchanged i j c)) r (exchanged i j c) l (exchanged_below i j c h k m)
     ∙ ap (entry_of n xs r) (exchanged_twice i j c))
-
-pub exchange-same : (n i j : ℕ) (xs : List Float) → i ≡ j → length xs ≡ n * n → xs ≡ exchange_of n i j xs
-exchange-same n i j xs q e =
-    sym (undone n (λ (r c : ℕ). entry_of n xs r (exchanged i j c)) xs e
-    (λ r c h k. ap (entry_of n xs r) (by_column (λ (d : ℕ). d ≡ c) i j c (λ p. sym (p ∙ q)) (λ m p. q ∙ sym p) (λ m o. refl))))
-
-exchange_symmetric : (n i j : ℕ) (xs : List Float) → exchange_of n i j xs ≡ exchange_of n j i xs
-exchange_symmetric n i j xs =
-    square_same n (λ (r c : ℕ). entry_of n xs r (exchanged i j c)) (λ (r c : ℕ). entry_of n xs r (exchanged j i c))
-    (λ r c h k.
-    ap (entry_of n xs r)
-    (by_column (λ (d : ℕ). d ≡ exchanged j i c) i j c
-    (λ e. by_column (λ (d : ℕ). j ≡ d) j i c (λ q. sym q ∙ e) (λ m q. refl) (λ m o. absurd (o e)))
-    (λ m e. by_column (λ (d : ℕ). i ≡ d) j i c (λ q. refl) (λ o q. absurd (o e)) (λ o q. absurd (o e)))
-    (λ m o. by_column (λ (d : ℕ). c ≡ d) j i c (λ q. absurd (o q)) (λ p q. absurd (m q)) (λ p q. refl))))
-
--- the two columns by their order
-pub exchange_ordered : (n i j a b : ℕ) (xs : List Float) → (i < j → (i ≡ a) × (j ≡ b)) → (j ≤ i → (i ≡ b) × (j ≡ a)) → exchange_of n a b xs
-    ≡ exchange_of n i j xs
-exchange_ordered n i j a b xs rising falling =
-    either i j (λ l. let p = rising l in cc (p.0, p.1)) (λ l. let p = falling l in cc (p.0, p.1, exchange_symmetric n b a xs))
 
 pub negate_twice : (n i : ℕ) (xs : List Float) → length xs ≡ n * n → negate_of n i (negate_of n i xs) ≡ xs
 negate_twice n i xs e =

@@ -1,5 +1,6 @@
 -- A place that is answered lies in the list: the columns before column c leave n places for it, and the triangle grows by a column at a time.
-use Rattle.float.proofs.Words.{◌≡◌, refl, ap, Bool, true, false, List, ⊎_elim, ℕ, zero, suc, ◌+◌, ◌*◌, ◌≤◌, ◌<◌, suc-mul, mul-add, mul-le-mul, mul-le-mul_right}
+use Rattle.float.proofs.Words.{◌≡◌, refl, min, max, ap, Bool, true, false, List, ⊎_elim, ℕ, zero, suc, ◌+◌, ◌*◌, ◌<◌}
+use Rattle.float.proofs.Words.{suc-mul, mul-add, mul-le-mul_right}
 use Rattle.float.proofs.Words.{eq-or-lt_of_le, arith, ltb, Float, Format, le-ltb}
 use Rattle.float.specs.Choice.{pick}
 use Rattle.float.proofs.Choice.{by_ltb}
@@ -27,9 +28,12 @@ packed_below {n} {r} {c} h k =
     by_ltb (λ (i : ℕ). i < triangular n) r c (r + triangular c) (c + triangular r) (λ l. omega (arith, columns_within n c k))
     (λ l. omega (arith, columns_within n r h))
 
--- of a size up to 3, what is halved
-pub small : {n c : ℕ} → n ≤ 3 → c < n → c * (c + 1) ≤ 6
-small {n} {c} h k = mul-le-mul {n₁ = c} {m₁ = c + 1} {n₂ = 2} {m₂ = 3} (omega arith) (omega arith)
+-- by the smaller and the larger of the two
+pub packed_ordered : (r c : ℕ) → min r c + triangular (max r c) ≡ packed_index r c
+packed_ordered r c =
+    by_ltb (λ (i : ℕ). min r c + triangular (max r c) ≡ i) r c (r + triangular c) (c + triangular r)
+    (λ l. let a : min r c ≡ r = omega arith in let b : max r c ≡ c = omega arith in rw (a, b))
+    (λ l. let a : min r c ≡ c = omega arith in let b : max r c ≡ r = omega arith in rw (a, b))
 
 -- ---- (r, c) and (c, r)
 

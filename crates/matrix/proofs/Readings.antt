@@ -1,57 +1,60 @@
--- Each case of an enum has a code of its own, so code and value together give the case back.
-use Rattle.float.proofs.Words.{◌≡◌, refl, sym, ap, ◌∙◌, ℕ, eqb, Float, Format}
+-- A place, a number and a matrix are each told by a code and a value, which give them back.
+use Rattle.float.proofs.Words.{◌≡◌, refl, sym, ap, ◌∙◌, List, ℕ, eqb, Float, Format}
+use Rattle.std.specs.Prelude.{Option, Some, None, Result}
 use Rattle.float.specs.Choice.{pick}
+use Rattle.float.specs.Constants.{zero_f}
 use Rattle.float.specs.OneAnswer.{OneAnswer}
-use Rattle.matrix.specs.Answer.{Answer, place, entry, scalar}
-use Rattle.matrix.specs.declared.answers.Place.{Place}
-use Rattle.matrix.specs.declared.answers.Place.TheVariants as place_is
-use Rattle.matrix.specs.declared.answers.Entry.{Entry}
-use Rattle.matrix.specs.declared.answers.Entry.TheVariants as entry-is
-use Rattle.matrix.specs.declared.answers.Scalar.{Scalar}
-use Rattle.matrix.specs.declared.answers.Scalar.TheVariants as scalar_is
+use Rattle.matrix.specs.Answer.{Answer, done, refused, answered, place, entry, scalar}
+use Rattle.matrix.specs.Indexed.{moved_or, packed_or}
+use Rattle.matrix.specs.declared.codes.Refusal.{Refusal}
+use Rattle.matrix.specs.declared.shape.DenseMatrixN.{DenseMatrixN}
+use Rattle.matrix.specs.declared.shape.DenseMatrixSymN.{DenseMatrixSymN}
+use Rattle.matrix.proofs.Refusals.{told_named}
+use Rattle.matrix.proofs.Stored.{square_known, packed_known}
 
 -- a reading that can be taken back names one thing
 named_by : {A B : Type 0} (read : A → B) (back : B → A) → ((x : A) → back (read x) ≡ x) → (b : B) → OneAnswer (λ (x : A). read x ≡ b)
 named_by read back is b x y e h = sym (is x) ∙ ap back (e ∙ sym h) ∙ is y
 
--- ---- places
+-- ---- what is inside or outside
 
-place_back : Answer ℕ → Place
-place_back a = pick (eqb a.code 0) (place_is.At a.value) place_is.Outside
+-- the value where the code is 0
+inner : {A : Type 0} → Answer A → Option A
+inner a = pick (eqb a.code 0) (Some a.value) None
 
-place_is_back : (p : Place) → place_back (place p) ≡ p
-unfolding place_back
-place_is_back (place_is.At i) = refl
-place_is_back place_is.Outside = refl
+inner_place : (p : Option ℕ) → inner (place p) ≡ p
+unfolding inner
+inner_place (Some i) = refl
+inner_place None = refl
 
-pub named_place : (a : Answer ℕ) → OneAnswer (λ (p : Place). place p ≡ a)
-named_place = named_by place place_back place_is_back
+pub named_place : (a : Answer ℕ) → OneAnswer (λ (p : Option ℕ). place p ≡ a)
+named_place = named_by place inner inner_place
 
--- ---- entries and scalars, of either format
+inner_entry : (f : Format) (x : Option Float) → inner (entry f x) ≡ x
+unfolding inner
+inner_entry f (Some x) = refl
+inner_entry f None = refl
 
-module _ (f : Format) where
-  entry_back : Answer Float → Entry
-  entry_back a = pick (eqb a.code 0) (entry-is.Number a.value) entry-is.Outside
+pub named_entry : (f : Format) (a : Answer Float) → OneAnswer (λ (x : Option Float). entry f x ≡ a)
+named_entry f = named_by (entry f) inner (inner_entry f)
 
-  entry_is_back : (x : Entry) → entry_back (entry f x) ≡ x
-  unfolding entry_back
-  entry_is_back (entry-is.Number x) = refl
-  entry_is_back entry-is.Outside = refl
+-- ---- what was worked out
 
-  pub named_entry : (a : Answer Float) → OneAnswer (λ (x : Entry). entry f x ≡ a)
-  named_entry = named_by (entry f) entry_back entry_is_back
+pub named_answered : {A : Type 0} (z : A) (a : Answer A) → OneAnswer (λ (r : Result A Refusal). answered z r ≡ a)
+named_answered {A} z =
+    told_named (λ (a : Answer A). a.code) (λ (k : ℕ). refused k z) done (λ k. refl) (λ x. refl) (λ x y e. ap (λ (a : Answer A). a.value) e)
 
-  scalar_back : Answer Float → Scalar
-  scalar_back a =
-      pick (eqb a.code 0) (scalar_is.Number a.value)
-      (pick (eqb a.code 1) scalar_is.InputLength (pick (eqb a.code 5) scalar_is.InputNotFinite scalar_is.AnswerNotFinite))
+pub named_scalar : (f : Format) (a : Answer Float) → OneAnswer (λ (r : Result Float Refusal). scalar f r ≡ a)
+named_scalar f = named_answered (zero_f f)
 
-  scalar_is_back : (x : Scalar) → scalar_back (scalar f x) ≡ x
-  unfolding scalar_back
-  scalar_is_back (scalar_is.Number x) = refl
-  scalar_is_back scalar_is.InputLength = refl
-  scalar_is_back scalar_is.InputNotFinite = refl
-  scalar_is_back scalar_is.AnswerNotFinite = refl
+-- ---- a matrix, or the numbers xs where it is refused
 
-  pub named_scalar : (a : Answer Float) → OneAnswer (λ (x : Scalar). scalar f x ≡ a)
-  named_scalar = named_by (scalar f) scalar_back scalar_is_back
+pub named_moved : {n s : ℕ} (xs : List Float) (a : Answer (List Float)) → OneAnswer (λ (r : Result (DenseMatrixN n s) Refusal). moved_or xs r ≡ a)
+named_moved xs =
+    told_named (λ (a : Answer (List Float)). a.code) (λ (k : ℕ). refused k xs) (λ m. done m.«data») (λ k. refl) (λ m. refl)
+    (λ x y e. square_known x.square y.square (ap (λ (a : Answer (List Float)). a.value) e))
+
+pub named_packed : {n s : ℕ} (xs : List Float) (a : Answer (List Float)) → OneAnswer (λ (r : Result (DenseMatrixSymN n s) Refusal). packed_or xs r ≡ a)
+named_packed xs =
+    told_named (λ (a : Answer (List Float)). a.code) (λ (k : ℕ). refused k xs) (λ m. done m.«data») (λ k. refl) (λ m. refl)
+    (λ x y e. packed_known x.packed y.packed (ap (λ (a : Answer (List Float)). a.value) e))

@@ -1,18 +1,12 @@
 -- Answers: a code and a value. Where a call is refused the code says why, and the value is made of zeros. Definitions only.
-use Rattle.std.specs.Prelude.{◌≡◌, List, [], ◌∷◌, ◌++◌, ℕ, leb, eqb, length, take, drop, Float}
+use Rattle.std.specs.Prelude.{◌≡◌, List, [], ◌∷◌, ◌++◌, ℕ, leb, eqb, length, take, drop, Float, Option, Some, None, Result}
 use Rattle.std.specs.Float.{Format}
 use Rattle.float.specs.Choice.{pick}
 use Rattle.float.specs.Constants.{zero_f}
 use Rattle.float.specs.Judged.{judged, judged_call}
+use Rattle.matrix.specs.Codes.{told}
 use Rattle.matrix.specs.Places.{zeros}
-use Rattle.matrix.specs.declared.answers.Place.{Place}
-use Rattle.matrix.specs.declared.answers.Place.TheVariants as place_is
-use Rattle.matrix.specs.declared.answers.Entry.{Entry}
-use Rattle.matrix.specs.declared.answers.Entry.TheVariants as entry-is
-use Rattle.matrix.specs.declared.answers.Scalar.{Scalar}
-use Rattle.matrix.specs.declared.answers.Scalar.TheVariants as scalar_is
-use Rattle.matrix.specs.declared.answers.Numbers2.{Numbers2}
-use Rattle.matrix.specs.declared.answers.Numbers3.{Numbers3}
+use Rattle.matrix.specs.declared.codes.Refusal.{Refusal}
 
 pub record Answer (A : Type 0) : Type 0 where
   pub code : ℕ
@@ -24,21 +18,22 @@ done x = record { code = 0; value = x }
 abbrev pub refused : {A : Type 0} → ℕ → A → Answer A
 refused k x = record { code = k; value = x }
 
--- ---- the code and the value of each case of an enum
+-- the code of a call, and its value, or z where it is refused
+abbrev pub answered : {A : Type 0} → A → Result A Refusal → Answer A
+answered z r = told (λ (k : ℕ). refused k z) done r
 
-abbrev pub place : Place → Answer ℕ
-place (place_is.At i) = done i
-place place_is.Outside = refused 8 0
+-- ---- the code and the value of a place, which may be outside, and of a number
 
-abbrev pub entry : Format → Entry → Answer Float
-entry f (entry-is.Number x) = done x
-entry f entry-is.Outside = refused 8 (zero_f f)
+abbrev pub place : Option ℕ → Answer ℕ
+place (Some i) = done i
+place None = refused 8 0
 
-abbrev pub scalar : Format → Scalar → Answer Float
-scalar f (scalar_is.Number x) = done x
-scalar f scalar_is.InputLength = refused 1 (zero_f f)
-scalar f scalar_is.InputNotFinite = refused 5 (zero_f f)
-scalar f scalar_is.AnswerNotFinite = refused 7 (zero_f f)
+abbrev pub entry : Format → Option Float → Answer Float
+entry f (Some x) = done x
+entry f None = refused 8 (zero_f f)
+
+abbrev pub scalar : Format → Result Float Refusal → Answer Float
+scalar f r = answered (zero_f f) r
 
 -- ---- one number, or n of them, worked out: 7 where one is not finite
 
@@ -61,20 +56,6 @@ answer_one f used x = judged_call (refused_one f) used (x ∷ []) (done x)
 
 abbrev pub answer_all : Format → ℕ → List Float → List Float → Answer (List Float)
 answer_all f n used xs = judged_call (refused_all f n) used xs (done xs)
-
--- ---- the structs that hold them
-
-abbrev pub numbers2 : Answer (List Float) → Numbers2
-numbers2 a = record { code = a.code; values = a.value }
-
-abbrev pub of_numbers2 : Numbers2 → Answer (List Float)
-of_numbers2 p = record { code = p.code; value = p.values }
-
-abbrev pub numbers3 : Answer (List Float) → Numbers3
-numbers3 a = record { code = a.code; values = a.value }
-
-abbrev pub of_numbers3 : Numbers3 → Answer (List Float)
-of_numbers3 p = record { code = p.code; value = p.values }
 
 -- ---- a lent slice: n numbers take its first places where the code is 0, and what lies past them stays; a slice of fewer places is refused with 2
 

@@ -1,16 +1,16 @@
 -- Calls that name a row or a column: answered only below the size n, and refused with 8 otherwise. Definitions only.
-use Rattle.std.specs.Prelude.{List, ℕ, ltb, set, Float}
+use Rattle.std.specs.Prelude.{List, ℕ, ltb, set, Float, Result}
 use Rattle.std.specs.Float.{Format}
 use Rattle.float.specs.Choice.{pick}
 use Rattle.float.specs.Constants.{zero_f}
 use Rattle.matrix.specs.Answer.{Answer, done, refused}
 use Rattle.matrix.specs.Places.{at}
-use Rattle.matrix.specs.Square.{mat2, mat3, exchange_of, negate_of}
-use Rattle.matrix.specs.Symmetric.{sym2, sym3}
-use Rattle.matrix.specs.declared.square.Mat2Answer.{Mat2Answer}
-use Rattle.matrix.specs.declared.square.Mat3Answer.{Mat3Answer}
-use Rattle.matrix.specs.declared.symmetric.Sym2Answer.{Sym2Answer}
-use Rattle.matrix.specs.declared.symmetric.Sym3Answer.{Sym3Answer}
+use Rattle.matrix.specs.declared.codes.Refusal.{Refusal}
+use Rattle.matrix.specs.declared.shape.DenseMatrixN.{DenseMatrixN}
+use Rattle.matrix.specs.declared.shape.DenseMatrixSymN.{DenseMatrixSymN}
+use Rattle.matrix.specs.Codes.{told}
+use Rattle.matrix.specs.Square.{Mat2, Mat3, mat2, mat3, exchange_of, negate_of}
+use Rattle.matrix.specs.Symmetric.{Sym2, Sym3, sym2, sym3}
 
 -- x for a row and a column of the matrix, and z where one is outside
 unfoldable pub inside : {A : Type 0} → ℕ → ℕ → ℕ → A → A → Answer A
@@ -35,16 +35,24 @@ swap_columns_of n i j xs = inside n i j (exchange_of n i j xs) xs
 unfoldable pub flip_column_of : ℕ → ℕ → List Float → Answer (List Float)
 flip_column_of n i xs = pick (ltb i n) (done (negate_of n i xs)) (refused 8 xs)
 
--- ---- the structs that hold a code and a matrix
+-- ---- the numbers of the matrix that a call hands out, or xs where it is refused
 
-abbrev pub mat2_answer : Answer (List Float) → Mat2Answer
-mat2_answer a = record { code = a.code; matrix = mat2 a.value }
+abbrev pub moved_or : {n s : ℕ} → List Float → Result (DenseMatrixN n s) Refusal → Answer (List Float)
+moved_or xs r = told (λ (k : ℕ). refused k xs) (λ m. done m.«data») r
 
-abbrev pub mat3_answer : Answer (List Float) → Mat3Answer
-mat3_answer a = record { code = a.code; matrix = mat3 a.value }
+abbrev pub packed_or : {n s : ℕ} → List Float → Result (DenseMatrixSymN n s) Refusal → Answer (List Float)
+packed_or xs r = told (λ (k : ℕ). refused k xs) (λ m. done m.«data») r
 
-abbrev pub sym2_answer : Answer (List Float) → Sym2Answer
-sym2_answer a = record { code = a.code; matrix = sym2 a.value }
+-- ---- a code and a matrix
 
-abbrev pub sym3_answer : Answer (List Float) → Sym3Answer
-sym3_answer a = record { code = a.code; matrix = sym3 a.value }
+abbrev pub mat2_answer : Answer (List Float) → Answer Mat2
+mat2_answer a = record { code = a.code; value = mat2 a.value }
+
+abbrev pub mat3_answer : Answer (List Float) → Answer Mat3
+mat3_answer a = record { code = a.code; value = mat3 a.value }
+
+abbrev pub sym2_answer : Answer (List Float) → Answer Sym2
+sym2_answer a = record { code = a.code; value = sym2 a.value }
+
+abbrev pub sym3_answer : Answer (List Float) → Answer Sym3
+sym3_answer a = record { code = a.code; value = sym3 a.value }

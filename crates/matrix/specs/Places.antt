@@ -1,5 +1,5 @@
 -- Where the numbers of a matrix of size n stand in its list. Definitions only.
-use Rattle.std.specs.Prelude.{List, [], ◌∷◌, ℕ, zero, suc, ◌+◌, ◌*◌, ◌/◌, ◌<◌, T, ltb, get_or, replicate, Float}
+use Rattle.std.specs.Prelude.{List, [], ◌∷◌, ℕ, zero, suc, ◌+◌, ◌*◌, ◌/◌, ◌<◌, T, ltb, leb, eqb, ◌&&◌, get_or, replicate, Float}
 use Rattle.std.specs.Float.{nan, Format}
 use Rattle.std.specs.Float.Ieee.{neg, fits}
 use Rattle.float.specs.Choice.{pick}
@@ -32,6 +32,14 @@ square_index n r c = r + c * n
 
 abbrev pub triangular : ℕ → ℕ
 triangular n = n * (n + 1) / 2
+
+-- s numbers are those of a square matrix of size n, which has two columns at least
+abbrev pub IsSquare : ℕ → ℕ → Type 0
+IsSquare n s = T (leb 2 n && eqb s (n * n))
+
+-- s numbers are the upper triangle of a symmetric matrix of size n, which is at most 3
+abbrev pub IsPacked : ℕ → ℕ → Type 0
+IsPacked n s = T (leb n 3 && eqb s (triangular n))
 
 -- of a symmetric one the upper triangle, column by column: A11, A12, A22, A13, A23, A33
 abbrev pub packed_index : ℕ → ℕ → ℕ

@@ -4,17 +4,25 @@ use Rattle.std.specs.Float.{Format}
 use Rattle.std.specs.Float.Ieee.{neg}
 use Rattle.float.specs.Choice.{pick}
 use Rattle.float.specs.Constants.{zero_f, one_f}
-use Rattle.matrix.specs.Places.{at, tabulate, square_index}
-use Rattle.matrix.specs.declared.square.Mat2.{Mat2}
-use Rattle.matrix.specs.declared.square.Mat3.{Mat3}
+use Rattle.matrix.specs.Places.{IsSquare, at, tabulate, square_index}
+use Rattle.matrix.specs.declared.shape.DenseMatrixN.{DenseMatrixN}
 
 -- ---- the structs
 
+abbrev pub Mat2 : Type 0
+Mat2 = DenseMatrixN 2 4
+
+abbrev pub Mat3 : Type 0
+Mat3 = DenseMatrixN 3 9
+
+abbrev pub square_with : {n s : ℕ} → IsSquare n s → List Float → DenseMatrixN n s
+square_with p xs = record { «data» = xs; square = p }
+
 abbrev pub mat2 : List Float → Mat2
-mat2 xs = record { «data» = xs }
+mat2 xs = square_with {n = 2} {s = 4} tt xs
 
 abbrev pub mat3 : List Float → Mat3
-mat3 xs = record { «data» = xs }
+mat3 xs = square_with {n = 3} {s = 9} tt xs
 
 -- ---- moves
 

@@ -4,5 +4,6 @@
 pub mod answers;
 pub mod codes;
 pub mod core3x3;
+pub mod shape;
 pub mod square;
 pub mod symmetric;

@@ -1,4 +1,4 @@
--- What an item and its answer may have.
+-- What an item and its answer may have. Definitions only.
 use Rattle.std.specs.Prelude.{ℕ, ◌<◌, ◌≤◌}
 
 -- n words in and m words out

@@ -5,8 +5,9 @@
 // input's end. Each whole item is answered; a part of one at the end is dropped.
 #![tactic(auto)]
 
-mod items;
-mod numbers;
+mod answer;
+mod item;
+mod job;
 mod of_cholesky;
 mod of_eigen;
 mod of_float;
@@ -14,27 +15,28 @@ mod of_matrix;
 mod of_svd;
 mod operations;
 mod streams;
-mod words;
 
-ghost use Rattle.std.specs.Prelude.{◌≤◌, ◌<◌, ◌≡◌, length};
-ghost use Rattle.probe.specs.Limits.{SmallItem};
+ghost use Rattle.std.specs.Prelude.{◌≤◌};
 
-use crate::items::{Job, answer_items, item_at};
-use crate::operations::known;
+use crate::item::Item;
+use crate::job::{HEADER_SIZE, Job};
 use crate::streams::{read_full, write_all};
-use crate::words::word;
+use std::fmt;
 
-fn say(rt: &HostRuntime, text: &[u8]) {
-    write_all(&mut rt.stderr(), text);
+// Why the program stops before the end of its input.
+#[derive(Clone, Copy, Debug, PartialEq, Eq)]
+enum Failure {
+    BadHeader,
+    CannotWrite,
 }
 
-// Whether the answers could be written.
-fn written(rt: &HostRuntime, answers: &[u8]) -> bool {
-    if write_all(&mut rt.stdout(), answers) {
-        return true;
+impl fmt::Display for Failure {
+    fn fmt<W: fmt::Write>(&self, f: &mut fmt::Formatter<W>) -> fmt::Result {
+        f.write_str(match self {
+            Failure::BadHeader => "bad header",
+            Failure::CannotWrite => "cannot write",
+        })
     }
-    say(rt, b"probe: cannot write\n");
-    false
 }
 
 // The items of a round go into one buffer, and their answers into another of this size.
@@ -43,91 +45,85 @@ const BUFFER_SIZE: usize = 65536;
 // How many items a round takes: of any size they and their answers fit into the buffers.
 const MOST: usize = 128;
 
-// Reads `end` bytes, or what is left, and says how many came. A read that fails counts as the end.
-fn fill(rt: &HostRuntime, buf: &mut [u8], end: usize) -> usize
-    requires { end ≤ length buf.old }
-    ensures { result ≤ end }
-{
-    read_full(&mut rt.stdin(), &mut buf[..end])
+#[derive(Drop)]
+struct Buffers {
+    items: [u8; BUFFER_SIZE],
+    answers: [u8; BUFFER_SIZE],
 }
 
-// Reads `most` items, or what is left, and answers the whole ones; says whether all came and could be answered.
-fn round(rt: &HostRuntime, buf: &mut [u8], out: &mut [u8], job: Job, most: usize) -> bool
-    requires buf_len { (length buf.old ≡ 65536) × (length out.old ≡ 65536) }
-    requires small_item { SmallItem job.n job.m × (most ≤ 128) }
+// The next job, if there is one. A read that fails counts as the end of the input.
+fn next_job(rt: &HostRuntime) -> Result<Option<Job>, Failure> {
+    let mut header = [0; HEADER_SIZE];
+    match read_full(&mut rt.stdin(), &mut header) {
+        0 => Ok(None),
+        HEADER_SIZE => Ok(Some(Job::new(header).ok_or(Failure::BadHeader)?)),
+        _ => Err(Failure::BadHeader),
+    }
+}
+
+// Answers the whole items among the first bytes.
+fn answer_items(buffers: &mut Buffers, job: Job, came: usize)
+    requires { came ≤ 65536 }
+{
+    let items = buffers.items[..came].chunks_exact(8 * job.n);
+    let answers = buffers.answers.chunks_exact_mut(8 * job.m);
+    for (item, out) in items.zip(answers) {
+        if let Some(answer) = operations::answer(job.op, &mut Item::new(item)) {
+            answer.put(out);
+        }
+    }
+}
+
+// Reads so many items, or what is left, and answers the whole ones; says whether all came.
+fn round(rt: &HostRuntime, buffers: &mut Buffers, job: Job, most: usize) -> Result<bool, Failure>
+    requires { most ≤ 128 }
 {
     let size = 8 * job.n;
     let end = most * size;
-    let came = fill(rt, buf, end);
+    let came = read_full(&mut rt.stdin(), &mut buffers.items[..end]);
+    answer_items(buffers, job, came);
     let count = came / size;
-    answer_items(buf, out, job, count);
     let full = count * (8 * job.m);
-    written(rt, &out[..full]) && came == end
+    if write_all(&mut rt.stdout(), &buffers.answers[..full]) {
+        Ok(came == end)
+    } else {
+        Err(Failure::CannotWrite)
+    }
 }
 
-// How many of the items that are left a round takes.
-fn next(left: usize) -> usize
-    requires { 0 < left }
-    ensures { (0 < result) × (result ≤ left) × (result ≤ 128) }
-{
-    if left < MOST { left } else { MOST }
-}
-
-// Answers so many items, or as many as there are; says whether there may be a job behind them.
-fn serve(rt: &HostRuntime, buf: &mut [u8], out: &mut [u8], job: Job, items: usize) -> bool
-    requires buf_len { (length buf.old ≡ 65536) × (length out.old ≡ 65536) }
-    requires small_item { SmallItem job.n job.m }
-{
-    let mut left = items;
+// Answers the items of a job, or as many as there are; says whether there may be a job behind them.
+fn serve(rt: &HostRuntime, buffers: &mut Buffers, job: Job) -> Result<bool, Failure> {
+    let mut left = job.items;
+    // a round takes the most that there is room for, and the last one what is left
     while left > 0 {
-        let most = next(left);
-        if !round(rt, buf, out, job, most) {
-            return false;
+        let most = left.min(MOST);
+        if !round(rt, buffers, job, most)? {
+            return Ok(false);
         }
         left -= most;
     }
-    true
+    Ok(true)
 }
 
-// A header without a count has all the items to the input's end: this many, which no run uses up.
-fn items_of(count: u64) -> usize {
-    if count == 0 {
-        usize::MAX
-    } else {
-        count as usize
-    }
-}
-
-// Reads a header and answers its items; says whether another header may follow.
-fn answer_job(rt: &HostRuntime, buf: &mut [u8], out: &mut [u8]) -> bool
-    requires { (length buf.old ≡ 65536) × (length out.old ≡ 65536) }
-{
-    let mut head = [0u8; 8];
-    let came = read_full(&mut rt.stdin(), &mut head);
-    if came == 0 {
-        return false;
-    }
-    let h = word(item_at(&head, 0, 1), 0);
-    let op = h % 256;
-    let n = (h / 256 % 256) as usize;
-    // the zero is tested with it
-    let m = (h / 65536 % 65536) as usize;
-    if came != 8 || !known(op) || n < 1 || 40 < n || m < 1 || 64 < m {
-        say(rt, b"probe: bad header\n");
-        return false;
-    }
-    serve(rt, buf, out, Job { op, n, m }, items_of(h / 4294967296))
-}
-
-// A proved loop has to end, and nothing says that the input does: the jobs count down from a number that no run uses up.
-fn main(rt: HostRuntime) {
-    let mut buf = [0u8; BUFFER_SIZE];
-    let mut out = [0u8; BUFFER_SIZE];
-    let mut jobs = u64::MAX;
-    while jobs > 0 {
-        if !answer_job(&rt, &mut buf, &mut out) {
-            return;
+// A proved loop has to end, and nothing says that the input does: no run uses up so many jobs.
+fn run(rt: &HostRuntime) -> Result<(), Failure> {
+    let mut buffers = Buffers {
+        items: [0; BUFFER_SIZE],
+        answers: [0; BUFFER_SIZE],
+    };
+    for _ in 0..u64::MAX {
+        let Some(job) = next_job(rt)? else {
+            return Ok(());
+        };
+        if !serve(rt, &mut buffers, job)? {
+            return Ok(());
         }
-        jobs -= 1;
+    }
+    Ok(())
+}
+
+fn main(rt: HostRuntime) {
+    if let Err(why) = run(&rt) {
+        let _ = eprintln!(rt; "probe: {why}");
     }
 }

@@ -1,47 +1,49 @@
 // Eigenvalues, eigenvectors and the steps to them.
-use crate::numbers::{mat3, number, of_mat3, put_mat2, put_mat3, put_sym3, put2, put3, sym2, sym3};
-use crate::words::{begin, coded, counted, marked, word};
+use crate::answer::Answer;
+use crate::item::Item;
+use crate::of_matrix::{mat3, sym2, sym3};
 use eigen::{order, pairs};
-use float::bits::to_bits;
+use float::width::Real;
 use jacobi::pairs::{OffDiag, Pair, turn_columns};
-use jacobi::rotation::{Rotation, compute_jacobi_rotation};
+use jacobi::rotation::{Elements, Rotation};
 
 // Code, count, settled, values, vectors, worked matrix.
-fn eigen_jacobi(words: [u64; 40]) -> [u64; 64] {
-    let r = eigen::eigen3x3::eigen_jacobi(sym3(words, 0));
-    let values = r.values;
-    let vectors = r.vectors;
-    let worked = r.worked;
-    let made = r.made;
-    let out = counted(r.code, made.count, r.settled);
-    put_sym3(put_mat3(put3(out, 3, values), 6, vectors), 15, worked)
+fn eigen_jacobi(item: &mut Item, out: &mut Answer) {
+    if let Some(x) = out.told(eigen::eigen3x3::eigen_jacobi(sym3(item))) {
+        out.code(x.made.count);
+        out.word(u64::from(x.settled));
+        out.numbers(&x.values);
+        out.numbers(&x.vectors.data);
+        out.numbers(&x.worked.data);
+    }
 }
 
-fn eigvals_jacobi(words: [u64; 40]) -> [u64; 64] {
-    let r = eigen::eigen3x3::eigvals_jacobi(sym3(words, 0));
-    let values = r.values;
-    let worked = r.worked;
-    let made = r.made;
-    let out = counted(r.code, made.count, r.settled);
-    put_sym3(put3(out, 3, values), 6, worked)
+fn eigvals_jacobi(item: &mut Item, out: &mut Answer) {
+    if let Some(x) = out.told(eigen::eigen3x3::eigvals_jacobi(sym3(item))) {
+        out.code(x.made.count);
+        out.word(u64::from(x.settled));
+        out.numbers(&x.values);
+        out.numbers(&x.worked.data);
+    }
 }
 
-fn eigen2(words: [u64; 40]) -> [u64; 64] {
-    let r = eigen::eigen2x2::eigen(sym2(words, 0));
-    let values = r.values;
-    let vectors = r.vectors;
-    let out = marked(r.code, r.settled);
-    put_mat2(put2(out, 2, values), 4, vectors)
+fn eigen2(item: &mut Item, out: &mut Answer) {
+    if let Some(x) = out.told(eigen::eigen2x2::eigen(sym2(item))) {
+        out.word(u64::from(x.settled));
+        out.numbers(&x.values);
+        out.numbers(&x.vectors.data);
+    }
 }
 
-fn eigvals2(words: [u64; 40]) -> [u64; 64] {
-    let r = eigen::eigen2x2::eigvals(sym2(words, 0));
-    let values = r.values;
-    put2(marked(r.code, r.settled), 2, values)
+fn eigvals2(item: &mut Item, out: &mut Answer) {
+    if let Some(x) = out.told(eigen::eigen2x2::eigvals(sym2(item))) {
+        out.word(u64::from(x.settled));
+        out.numbers(&x.values);
+    }
 }
 
-// The pairs by their rows and columns: 12, 13, 23.
-fn of_pair(p: Pair) -> u64 {
+// The pairs by their rows and columns: 12, 13, 23. These words are the jobs' alone, so `Pair` itself has no such conversion.
+fn number_of(p: Pair) -> u64 {
     match p {
         Pair::P12 => 12,
         Pair::P13 => 13,
@@ -49,8 +51,8 @@ fn of_pair(p: Pair) -> u64 {
     }
 }
 
-pub(crate) fn pair(words: [u64; 40]) -> Pair {
-    match word(words, 0) {
+pub(crate) fn pair(item: &mut Item) -> Pair {
+    match item.word() {
         12 => Pair::P12,
         13 => Pair::P13,
         _ => Pair::P23,
@@ -58,74 +60,81 @@ pub(crate) fn pair(words: [u64; 40]) -> Pair {
 }
 
 // A pair and its size.
-pub(crate) fn of_off_diag(r: OffDiag) -> [u64; 64] {
-    let p = r.pair;
-    begin(of_pair(p), to_bits(r.size), 0)
+pub(crate) fn put_off_diag(out: &mut Answer, r: OffDiag) {
+    out.word(number_of(r.pair));
+    out.number(r.size);
 }
 
 // Cosine, sine and tangent.
-fn of_rotation(r: Rotation) -> [u64; 64] {
-    put3([0; 64], 0, [r.c, r.s, r.t])
+fn rotation(item: &mut Item) -> Rotation {
+    let [c, s, t]: [Real; 3] = item.numbers();
+    Rotation { c, s, t }
 }
 
-// Behind the pair.
-fn rotation(words: [u64; 40]) -> Rotation {
-    Rotation {
-        c: number(words, 1),
-        s: number(words, 2),
-        t: number(words, 3),
-    }
+fn jacobi_rotation(item: &mut Item, out: &mut Answer) {
+    let [apq, app, aqq]: [Real; 3] = item.numbers();
+    let r = Elements { apq, app, aqq }.rotation();
+    out.numbers(&[r.c, r.s, r.t]);
 }
 
-fn sort3_with_columns(words: [u64; 40]) -> [u64; 64] {
-    let r = order::sort3_with_columns(
-        number(words, 0),
-        number(words, 1),
-        number(words, 2),
-        mat3(words, 3),
-    );
-    let values = r.values;
-    let columns = r.columns;
-    put_mat3(put3([0; 64], 0, values), 3, columns)
+// Of the pair: a rotation and the matrix; cosine, sine, tangent and the columns.
+fn apply_rotation(item: &mut Item, out: &mut Answer) {
+    let p = pair(item);
+    let r = rotation(item);
+    out.numbers(&pairs::apply_rotation(sym3(item), p, r).data);
 }
 
-// Code, and the matrix as it is left.
-fn rotate(words: [u64; 40]) -> [u64; 64] {
-    let r = lent::rotate(sym3(words, 4), pair(words), rotation(words));
-    let left = r.matrix;
-    put_sym3(coded(r.code), 1, left)
+fn update_eigenvectors(item: &mut Item, out: &mut Answer) {
+    let p = pair(item);
+    let r = rotation(item);
+    out.numbers(&pairs::update_eigenvectors(mat3(item), p, r).data);
 }
 
-pub(crate) fn eigen(op: u64, words: [u64; 40]) -> [u64; 64] {
+// The tangent is there, and is not used.
+fn turn(item: &mut Item, out: &mut Answer) {
+    let p = pair(item);
+    let [c, s, _t]: [Real; 3] = item.numbers();
+    out.numbers(&turn_columns(mat3(item), p, c, s).data);
+}
+
+fn sort3(item: &mut Item, out: &mut Answer) {
+    let [a, b, c]: [Real; 3] = item.numbers();
+    out.numbers(&order::sort3(a, b, c));
+}
+
+fn sort3_with_columns(item: &mut Item, out: &mut Answer) {
+    let [a, b, c]: [Real; 3] = item.numbers();
+    let r = order::sort3_with_columns(a, b, c, mat3(item));
+    out.numbers(&r.values);
+    out.numbers(&r.columns.data);
+}
+
+// Code, and the matrix: the rotated copy, or on refusal what a rotation in place leaves.
+fn rotate(item: &mut Item, out: &mut Answer) {
+    let p = pair(item);
+    let r = rotation(item);
+    let mut left = sym3(item);
+    let rotated = lent::rotate(left, p, r);
+    let ended = lent::rotate_in_place(&mut left, p, r);
+    let _ = out.told(ended);
+    out.numbers(&rotated.unwrap_or(left).data);
+}
+
+pub(crate) fn eigen(op: u8, item: &mut Item, out: &mut Answer) -> Option<()> {
     match op {
-        48 => eigen_jacobi(words),
-        49 => eigvals_jacobi(words),
-        50 => eigen2(words),
-        51 => eigvals2(words),
-        52 => of_rotation(compute_jacobi_rotation(
-            number(words, 0),
-            number(words, 1),
-            number(words, 2),
-        )),
-        53 => of_off_diag(pairs::find_largest_off_diag(sym3(words, 0))),
-        54 => put_sym3(
-            [0; 64],
-            0,
-            pairs::apply_rotation(sym3(words, 4), pair(words), rotation(words)),
-        ),
-        55 => of_mat3(pairs::update_eigenvectors(mat3(words, 4), pair(words), rotation(words))),
-        56 => of_mat3(turn_columns(
-            mat3(words, 4),
-            pair(words),
-            number(words, 1),
-            number(words, 2),
-        )),
-        57 => put3(
-            [0; 64],
-            0,
-            order::sort3(number(words, 0), number(words, 1), number(words, 2)),
-        ),
-        58 => sort3_with_columns(words),
-        _ => rotate(words),
+        48 => eigen_jacobi(item, out),
+        49 => eigvals_jacobi(item, out),
+        50 => eigen2(item, out),
+        51 => eigvals2(item, out),
+        52 => jacobi_rotation(item, out),
+        53 => put_off_diag(out, pairs::find_largest_off_diag(sym3(item))),
+        54 => apply_rotation(item, out),
+        55 => update_eigenvectors(item, out),
+        56 => turn(item, out),
+        57 => sort3(item, out),
+        58 => sort3_with_columns(item, out),
+        59 => rotate(item, out),
+        _ => return None,
     }
+    Some(())
 }

@@ -1,203 +1,181 @@
 // The matrix types: one function for each operation, which may run several of theirs.
-ghost use Rattle.std.specs.Prelude.{◌<◌};
-
-use crate::numbers::{
-    eight, length, lent, mat2, mat3, number, place, put_mat2, put_mat3, put_sym2, put_sym3, sym2,
-    sym3,
-};
-use crate::words::{begin, coded};
-use float::bits::to_bits;
-use matrix::answers::{Entry, Place, Scalar};
-use matrix::codes::{ANSWER_NOT_FINITE, DONE, INPUT_LENGTH, INPUT_NOT_FINITE, OUTSIDE};
+use crate::answer::Answer;
+use crate::item::Item;
+use float::width::Real;
+use matrix::codes::{Refusal, code_of};
+use matrix::shape::{DenseMatrixN, DenseMatrixSymN};
+use matrix::square::{Mat2, Mat3};
 use matrix::symmetric::{Sym2, Sym3};
 
-fn put_code(out: [u64; 64], at: usize, code: u8) -> [u64; 64]
-    requires { at < 64 }
-{
-    let mut o = out;
-    o[at] = code as u64;
-    o
+// A row, a column, and a number to write there.
+#[derive(Clone, Copy)]
+struct Write {
+    r: usize,
+    c: usize,
+    x: Real,
 }
 
-fn of_place(p: Place) -> [u64; 64] {
-    match p {
-        Place::At(i) => begin(DONE as u64, i as u64, 0),
-        Place::Outside => coded(OUTSIDE),
+impl Write {
+    fn next(item: &mut Item) -> Self {
+        Write {
+            r: item.place(),
+            c: item.place(),
+            x: item.number(),
+        }
     }
 }
 
-// Code and place, code and number, and the code of what follows.
-fn of_places(p: Place, e: Entry, code: u8) -> [u64; 64] {
-    let mut out = of_place(p);
-    out[4] = code as u64;
-    match e {
-        Entry::Number(x) => out[3] = to_bits(x),
-        Entry::Outside => out[2] = OUTSIDE as u64,
-    }
-    out
+// Code and place, code and number.
+fn put_place(out: &mut Answer, place: Option<usize>, number: Option<Real>) {
+    let place = out.told(place.ok_or(Refusal::Outside)).unwrap_or(0);
+    out.word(place as u64);
+    let number = out.told(number.ok_or(Refusal::Outside)).unwrap_or(0.0);
+    out.number(number);
 }
 
-// Row, column, a number to write, the matrix; code and place, code and number, code and matrix.
-fn places_sym2(words: [u64; 40]) -> [u64; 64] {
-    let a = sym2(words, 3);
-    let r = place(words, 0);
-    let c = place(words, 1);
-    let w = a.index_mut(r, c, number(words, 2));
-    let written = w.matrix;
-    let out = of_places(a.index_linear(r, c), a.index(r, c), w.code);
-    put_sym2(out, 5, written)
+// Where to write, and the matrix; code and place, code and number, code and matrix.
+fn places_square<const N: usize, const S: usize>(
+    w: Write,
+    a: &DenseMatrixN<N, S>,
+    out: &mut Answer,
+) {
+    let place = a.index_linear(w.r, w.c);
+    let number = a.index(w.r, w.c);
+    put_place(out, place, number);
+    let written = a.index_mut(w.r, w.c, w.x);
+    let left = out.told(written).unwrap_or(*a);
+    out.numbers(&left.data);
 }
 
-fn places_sym3(words: [u64; 40]) -> [u64; 64] {
-    let a = sym3(words, 3);
-    let r = place(words, 0);
-    let c = place(words, 1);
-    let w = a.index_mut(r, c, number(words, 2));
-    let written = w.matrix;
-    let out = of_places(a.index_linear(r, c), a.index(r, c), w.code);
-    put_sym3(out, 5, written)
+fn places_packed<const N: usize, const S: usize>(
+    w: Write,
+    a: &DenseMatrixSymN<N, S>,
+    out: &mut Answer,
+) {
+    let place = a.index_linear(w.r, w.c);
+    let number = a.index(w.r, w.c);
+    put_place(out, place, number);
+    let written = a.index_mut(w.r, w.c, w.x);
+    let left = out.told(written).unwrap_or(*a);
+    out.numbers(&left.data);
 }
 
-fn places_mat2(words: [u64; 40]) -> [u64; 64] {
-    let a = mat2(words, 3);
-    let r = place(words, 0);
-    let c = place(words, 1);
-    let w = a.index_mut(r, c, number(words, 2));
-    let written = w.matrix;
-    let out = of_places(a.index_linear(r, c), a.index(r, c), w.code);
-    put_mat2(out, 5, written)
-}
-
-fn places_mat3(words: [u64; 40]) -> [u64; 64] {
-    let a = mat3(words, 3);
-    let r = place(words, 0);
-    let c = place(words, 1);
-    let w = a.index_mut(r, c, number(words, 2));
-    let written = w.matrix;
-    let out = of_places(a.index_linear(r, c), a.index(r, c), w.code);
-    put_mat3(out, 5, written)
-}
-
-// Two columns, the matrix; identity, transpose, code and flipped, code and swapped.
-fn moves_mat2(words: [u64; 40]) -> [u64; 64] {
-    let a = mat2(words, 2);
-    let i = place(words, 0);
-    let f = a.flip_column(i);
-    let s = a.swap_columns(i, place(words, 1));
-    let flipped = f.matrix;
-    let swapped = s.matrix;
-    let codes = put_code(put_code([0; 64], 8, f.code), 13, s.code);
-    let out = put_mat2(
-        put_mat2(codes, 0, a.set_identity()),
-        4,
-        a.transpose_in_place(),
-    );
-    put_mat2(put_mat2(out, 9, flipped), 14, swapped)
-}
-
-fn moves_mat3(words: [u64; 40]) -> [u64; 64] {
-    let a = mat3(words, 2);
-    let i = place(words, 0);
-    let f = a.flip_column(i);
-    let s = a.swap_columns(i, place(words, 1));
-    let flipped = f.matrix;
-    let swapped = s.matrix;
-    let codes = put_code(put_code([0; 64], 18, f.code), 28, s.code);
-    let out = put_mat3(
-        put_mat3(codes, 0, a.set_identity()),
-        9,
-        a.transpose_in_place(),
-    );
-    put_mat3(put_mat3(out, 19, flipped), 29, swapped)
+// Two columns and the matrix; identity, transpose, code and flipped, code and swapped.
+fn moves<const N: usize, const S: usize>(
+    i: usize,
+    j: usize,
+    a: &DenseMatrixN<N, S>,
+    out: &mut Answer,
+) {
+    let identity = a.set_identity();
+    out.numbers(&identity.data);
+    let transposed = a.transpose_in_place();
+    out.numbers(&transposed.data);
+    let flipped = a.flip_column(i);
+    let left = out.told(flipped).unwrap_or(*a);
+    out.numbers(&left.data);
+    let swapped = a.swap_columns(i, j);
+    let left = out.told(swapped).unwrap_or(*a);
+    out.numbers(&left.data);
 }
 
 // A factor, the matrix, another that is written over; code and scaled, copied.
-fn scaled_sym2(words: [u64; 40]) -> [u64; 64] {
-    let b = sym2(words, 1);
-    let r = Sym2::scaled_from(number(words, 0), b);
-    let scaled = r.matrix;
-    put_sym2(
-        put_sym2(coded(r.code), 1, scaled),
-        4,
-        sym2(words, 4).copy_from(b),
-    )
+fn scaled<const N: usize, const S: usize>(
+    c: Real,
+    b: &DenseMatrixSymN<N, S>,
+    a: &DenseMatrixSymN<N, S>,
+    out: &mut Answer,
+) {
+    let scaled = DenseMatrixSymN::scaled_from(c, *b);
+    match out.told(scaled) {
+        Some(x) => out.numbers(&x.data),
+        None => out.numbers(&[0.0; S]),
+    }
+    let copied = a.copy_from(*b);
+    out.numbers(&copied.data);
 }
 
-fn scaled_sym3(words: [u64; 40]) -> [u64; 64] {
-    let b = sym3(words, 1);
-    let r = Sym3::scaled_from(number(words, 0), b);
-    let scaled = r.matrix;
-    put_sym3(
-        put_sym3(coded(r.code), 1, scaled),
-        7,
-        sym3(words, 7).copy_from(b),
-    )
-}
-
-// The matrix, the two lengths, eight places of the output and of the input.
-fn mul_mat2(words: [u64; 40]) -> [u64; 64] {
-    let a = mat2(words, 0);
-    let n = length(words, 4);
-    let m = length(words, 5);
-    let mut y = eight(words, 6);
-    let x = eight(words, 14);
-    let code = a.mul(&mut y[..n], &x[..m]);
-    lent(code, y)
-}
-
-fn mul_mat3(words: [u64; 40]) -> [u64; 64] {
-    let a = mat3(words, 0);
-    let n = length(words, 9);
-    let m = length(words, 10);
-    let mut y = eight(words, 11);
-    let x = eight(words, 19);
-    let code = a.mul(&mut y[..n], &x[..m]);
-    lent(code, y)
-}
-
-fn mul_sym3(words: [u64; 40]) -> [u64; 64] {
-    let a = sym3(words, 0);
-    let n = length(words, 6);
-    let m = length(words, 7);
-    let mut y = eight(words, 8);
-    let x = eight(words, 16);
-    let code = a.mul(&mut y[..n], &x[..m]);
-    lent(code, y)
+// Two lengths, eight places of the output and of the input; the code of a call on the parts that are lent, and the output's places.
+pub(crate) fn lent<F: FnOnce(&mut [Real], &[Real]) -> Result<(), Refusal>>(
+    item: &mut Item,
+    out: &mut Answer,
+    call: F,
+)
+    requires { F.IsAlwaysCallable call }
+{
+    let n = item.length();
+    let m = item.length();
+    let mut y = item.numbers::<8>();
+    let x = item.numbers::<8>();
+    out.code(code_of(call(&mut y[..n], &x[..m])));
+    out.numbers(&y);
 }
 
 // Code and number.
-fn of_scalar(s: Scalar) -> [u64; 64] {
-    match s {
-        Scalar::Number(x) => begin(DONE as u64, to_bits(x), 0),
-        Scalar::InputLength => coded(INPUT_LENGTH),
-        Scalar::InputNotFinite => coded(INPUT_NOT_FINITE),
-        Scalar::AnswerNotFinite => coded(ANSWER_NOT_FINITE),
+fn put_scalar(out: &mut Answer, x: Result<Real, Refusal>) {
+    let number = out.told(x).unwrap_or(0.0);
+    out.number(number);
+}
+
+// The matrix, two lengths, eight places of both inputs.
+fn quad_form(item: &mut Item, out: &mut Answer) {
+    let a = sym3(item);
+    let n = item.length();
+    let m = item.length();
+    let y = item.numbers::<8>();
+    let x = item.numbers::<8>();
+    put_scalar(out, a.quad_form(&y[..n], &x[..m]));
+}
+
+pub(crate) fn sym2(item: &mut Item) -> Sym2 {
+    Sym2 {
+        data: item.numbers(),
     }
 }
 
-fn quad_form(words: [u64; 40]) -> [u64; 64] {
-    let a = sym3(words, 0);
-    let n = length(words, 6);
-    let m = length(words, 7);
-    let y = eight(words, 8);
-    let x = eight(words, 16);
-    of_scalar(a.quad_form(&y[..n], &x[..m]))
+pub(crate) fn sym3(item: &mut Item) -> Sym3 {
+    Sym3 {
+        data: item.numbers(),
+    }
 }
 
-pub(crate) fn matrix(op: u64, words: [u64; 40]) -> [u64; 64] {
+pub(crate) fn mat2(item: &mut Item) -> Mat2 {
+    Mat2 {
+        data: item.numbers(),
+    }
+}
+
+pub(crate) fn mat3(item: &mut Item) -> Mat3 {
+    Mat3 {
+        data: item.numbers(),
+    }
+}
+
+pub(crate) fn matrix(op: u8, item: &mut Item, out: &mut Answer) -> Option<()> {
     match op {
-        16 => places_sym2(words),
-        17 => places_sym3(words),
-        18 => places_mat2(words),
-        19 => places_mat3(words),
-        20 => moves_mat2(words),
-        21 => moves_mat3(words),
-        22 => scaled_sym2(words),
-        23 => scaled_sym3(words),
-        24 => mul_mat2(words),
-        25 => mul_mat3(words),
-        26 => mul_sym3(words),
-        27 => quad_form(words),
-        _ => of_scalar(sym3(words, 0).norm_fro()),
+        16 => places_packed(Write::next(item), &sym2(item), out),
+        17 => places_packed(Write::next(item), &sym3(item), out),
+        18 => places_square(Write::next(item), &mat2(item), out),
+        19 => places_square(Write::next(item), &mat3(item), out),
+        20 => moves(item.place(), item.place(), &mat2(item), out),
+        21 => moves(item.place(), item.place(), &mat3(item), out),
+        22 => scaled(item.number(), &sym2(item), &sym2(item), out),
+        23 => scaled(item.number(), &sym3(item), &sym3(item), out),
+        24 => {
+            let a = mat2(item);
+            lent(item, out, |y, x| a.mul(y, x));
+        }
+        25 => {
+            let a = mat3(item);
+            lent(item, out, |y, x| a.mul(y, x));
+        }
+        26 => {
+            let a = sym3(item);
+            lent(item, out, |y, x| a.mul(y, x));
+        }
+        27 => quad_form(item, out),
+        28 => put_scalar(out, sym3(item).norm_fro()),
+        _ => return None,
     }
+    Some(())
 }

@@ -13,12 +13,9 @@ use Rattle.float.proofs.Zeros.{zero_is}
 use Rattle.float.proofs.Power.{power_range}
 use Rattle.matrix.specs.Places.{at, Fit}
 use Rattle.matrix.proofs.Tables.{tabulate-same, tabulate_all, length-tabulate}
-use Rattle.kinds.specs.Table.{kind_numbered}
-use Rattle.kinds.specs.Work.{refused_kind, used_finite, answered_by, plain_of}
+use Rattle.kinds.specs.Table.{Kind, kind_numbered}
+use Rattle.kinds.specs.Work.{WorkedAnswer, Asked, refused_kind, used_finite, answered_by, plain_of}
 use Rattle.kinds.specs.Ways.{is_scaled, times_all, power_for, divided, revalued, multiplied_back, work_of}
-use Rattle.kinds.specs.declared.table.Kind.{Kind}
-use Rattle.kinds.specs.declared.work.Asked.{Asked}
-use Rattle.kinds.specs.declared.work.Worked.{Worked}
 use Rattle.kinds.proofs.Rows.{each_kind}
 use Rattle.kinds.proofs.Works.{plain-sized}
 use Rattle.kinds.proofs.BothWays.{by_back}
@@ -67,7 +64,7 @@ module _ (f : Format) (a : Asked) (scaled : is_scaled a ≡ true) (size : length
   back =
       let w = plain_of f a in
       let same : times_all f (pos 0) 3 w.values ≡ w.values = times_itself f 3 w.values (plain-sized f a).0 (plain_fit f a scales fit) in
-      by_back f (pos 0) w (λ (x : Worked). x ≡ w) (λ _. ap (λ (v : List Float). revalued v w) same)
+      by_back f (pos 0) w (λ (x : WorkedAnswer). x ≡ w) (λ _. ap (λ (v : List Float). revalued v w) same)
       (λ e. absurd (true≢false (sym (ap all_finite same ∙ (plain_vouched f a).0) ∙ e)))
 
   pub unchanged : work_of f a ≡ plain_of f a

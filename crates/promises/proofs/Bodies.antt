@@ -4,9 +4,8 @@ use Rattle.float.proofs.Words.{◌≡◌, sym, ap, ◌∙◌, true, List, ℕ, �
 use Rattle.float.proofs.Words.{take-append-drop, get_or-take, length-take-le, mul-le-mul_left, mul-zero, Format, eqb-false}
 use Rattle.float.proofs.Choice.{both_chosen}
 use Rattle.kinds.specs.Table.{kind_numbered}
-use Rattle.kinds.specs.Work.{refused_kind, used_finite}
+use Rattle.kinds.specs.Work.{WorkedAnswer, refused_kind, used_finite}
 use Rattle.kinds.specs.Ways.{work_of}
-use Rattle.kinds.specs.declared.work.Worked.{Worked}
 use Rattle.wire.specs.Bytes.{number_bytes, place_of, part, all_zero}
 use Rattle.wire.proofs.Parts.{part_within}
 use Rattle.record.specs.Layout.{reserved_at, nine_at, three_at, request_size}
@@ -56,7 +55,7 @@ module _ (f : Format) (s t : List ℕ) (n : ℕ) (nine : (kind_numbered (kind_of
   same_form = rw (kind_same, way_same, reserved_same, unused_same)
 
   -- the same tests on both sides, so the same side of each choice is taken
-  pub kept : (R : Worked → Worked → Type 0) → ((k : ℕ) → (k ≡ 0 → ⊥) → R (refused_kind f k 0) (refused_kind f k 0))
+  pub kept : (R : WorkedAnswer → WorkedAnswer → Type 0) → ((k : ℕ) → (k ≡ 0 → ⊥) → R (refused_kind f k 0) (refused_kind f k 0))
       → used_finite (asked_of f t) ≡ used_finite (asked_of f s) → (used_finite (asked_of f s) ≡ true → R (work_of f (asked_of f s)) (work_of f (asked_of f t)))
       → R (judged_of f s) (judged_of f t)
   unfolding judged_of

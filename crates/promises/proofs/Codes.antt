@@ -1,5 +1,8 @@
 -- The record step asks the rows one after the other, in the table's order, and its tests decide their conditions.
 use Rattle.float.proofs.Words.{◌≡◌, refl, Bool, true, false, not, List, ℕ, eqb, length, drop, Format}
+use Rattle.matrix.specs.Codes.{code_of}
+use Rattle.matrix.specs.declared.codes.Refusal.{Refusal}
+use Rattle.std.specs.Prelude.{Result}
 use contract.Lifetimes.{Lfts}
 use Rattle.float.specs.Width.{F}
 use Rattle.float.specs.Choice.{pick}
@@ -9,9 +12,8 @@ use Rattle.matrix.proofs.Rows.{Decides, first_row, by_length}
 use Rattle.cholesky.specs.Pivots.{pivot_code}
 use Rattle.cholesky.proofs.Rows.{later_rows}
 use Rattle.kinds.specs.Table.{known_kind}
-use Rattle.kinds.specs.Work.{refused_kind, used_finite}
+use Rattle.kinds.specs.Work.{WorkedAnswer, refused_kind, used_finite}
 use Rattle.kinds.specs.Ways.{work_of}
-use Rattle.kinds.specs.declared.work.Worked.{Worked}
 use Rattle.record.specs.Layout.{request_size, answer_size}
 use Rattle.record.specs.Request.{kind_of, asked_of, rest_right, form_of, judged_of}
 use Rattle.record.specs.Answer.{Step, record_step_of}
@@ -23,7 +25,7 @@ use Rattle.promises.proofs.Decided.{by_kind, by_rest, by_used}
 use Rattle.promises.proofs.Kernels.{kind_code}
 
 -- the tests of 3, 4 and 5, and then the kind's answer w
-asked : (f : Format) (w : Worked) (code : ℕ) (known zero used : Bool) → (known ≡ true → used ≡ true → w.code ≡ code)
+asked : (f : Format) (w : WorkedAnswer) (code : ℕ) (known zero used : Bool) → (known ≡ true → used ≡ true → w.code ≡ code)
     → (pick (eqb (pick known (pick zero 0 4) 3) 0) (pick used w (refused_kind f 5 0)) (refused_kind f (pick known (pick zero 0 4) 3) 0)).code
     ≡ pick (not known) 3 (pick (not zero) 4 (pick (not used) 5 code))
 asked f w code true true true h = h refl refl
@@ -75,5 +77,6 @@ module _ (f : Format) (s a : List ℕ) where
 
 -- ---- any answer within the promise of the record step
 
-pub codes_by_calls : (κs : Lfts 2) (a : _) (r : ℕ) (x : _) → answer-record.Post κs a r x → Gives (rows F a.0.now a.1.0.now) r
+pub codes_by_calls : (κs : Lfts 2) (a : _) (r : Result (Unit {0}) Refusal) (x : _) → answer-record.Post κs a r x
+    → Gives (rows F a.0.now a.1.0.now) (code_of r)
 codes_by_calls κs a r x p = rw p.0 (codes F a.0.now a.1.0.now)

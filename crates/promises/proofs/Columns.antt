@@ -4,7 +4,6 @@ use Rattle.float.proofs.Words.{length-drop, get_or-drop, drop-append-add, nan, F
 use Rattle.matrix.specs.Places.{at}
 use Rattle.matrix.proofs.Tables.{tabulate-same, tabulate-take}
 use Rattle.eigen.specs.Reversed.{column_of, ColumnsExchanged}
-use Rattle.kinds.specs.declared.work.Worked.{Worked}
 use Rattle.kinds.proofs.Works.{Sized}
 use Rattle.wire.specs.Bytes.{number_bytes, place_of, part, number_bytes_of}
 use Rattle.wire.proofs.Numbers.{numbers_length, numbers_drop, numbers_take}
@@ -13,6 +12,7 @@ use Rattle.record.specs.Request.{kind_of, judged_of}
 use Rattle.record.specs.Answer.{record_of}
 use Rattle.record.proofs.Answers.{judged-sized}
 use Rattle.promises.specs.Wiring.{column_bytes, BytesExchanged}
+use Rattle.kinds.specs.Work.{WorkedAnswer}
 
 -- a column is three numbers in a row
 column_taken : (v : List Float) (c : ℕ) → length v ≡ 9 → c ≤ 2 → column_of v c ≡ take 3 (drop (3 * c) v)
@@ -23,7 +23,7 @@ column_taken v c n h =
     ∙ tabulate-take 3 (drop (3 * c) v) (omega arith)
 
 -- in a record of any event
-in_record : (f : Format) (event : List ℕ) (kind : ℕ) (w : Worked) (c : ℕ) → length event ≡ event_bytes → Sized w → c ≤ 2
+in_record : (f : Format) (event : List ℕ) (kind : ℕ) (w : WorkedAnswer) (c : ℕ) → length event ≡ event_bytes → Sized w → c ≤ 2
     → part (place_of f (left_at f) (3 * c)) (number_bytes f * 3) (record_of f event kind w) ≡ number_bytes_of f (column_of w.left c)
 unfolding record_of
 in_record f event kind w c e n h =

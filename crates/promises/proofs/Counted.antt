@@ -1,6 +1,9 @@
 -- Every answer has a head that a tally knows: its code is one of the rows', and with code 0 its kind is known, its mark is 1 or 0, and its count is that of a
 -- run, at most 25, or 0.
 use Rattle.float.proofs.Words.{◌≡◌, refl, sym, ap, ◌∙◌, subst, true, false, not, true≢false, false≢true, List, [], ℕ, ◌≤◌, arith, zero, suc}
+use Rattle.matrix.specs.Codes.{code_of}
+use Rattle.matrix.specs.declared.codes.Refusal.{Refusal}
+use Rattle.std.specs.Prelude.{Result}
 use Rattle.float.proofs.Words.{◌+◌, ◌*◌, mul-suc, zero-div, eqb, length, get_or, take}
 use Rattle.float.proofs.Words.{replicate, length-take, length-drop, length-take-le, Format, eq-eqb, ne_eqb, le-leb}
 use native.Mathlib.Nat.{mul-mod_right}
@@ -14,12 +17,9 @@ use Rattle.cholesky.specs.Pivots.{one_at_most_zero, one_nan, Stopped}
 use Rattle.cholesky.proofs.Stops.{unstopped}
 use Rattle.eigen.proofs.Counted as eigen
 use Rattle.svd.proofs.Counted as svd
-use Rattle.kinds.specs.Table.{kind_numbered, known_kind}
-use Rattle.kinds.specs.Work.{first_of, refused_kind, used_finite, answered_by, plain_of}
+use Rattle.kinds.specs.Table.{Kind, kind_numbered, known_kind}
+use Rattle.kinds.specs.Work.{WorkedAnswer, Asked, first_of, refused_kind, used_finite, answered_by, plain_of}
 use Rattle.kinds.specs.Ways.{power_for, divided, work_of}
-use Rattle.kinds.specs.declared.table.Kind.{Kind}
-use Rattle.kinds.specs.declared.work.Asked.{Asked}
-use Rattle.kinds.specs.declared.work.Worked.{Worked}
 use Rattle.kinds.proofs.Rows.{each_kind}
 use Rattle.kinds.proofs.BothWays.{by_back, by_way, work_uncounted, work_mark}
 use Rattle.record.specs.Layout.{event_bytes, request_size, answer_size}
@@ -69,7 +69,7 @@ plain_turned f a =
 
 work_turned : (f : Format) (a : Asked) → (kind_numbered a.kind).counts ≡ true → (work_of f a).code ≡ 0 → (work_of f a).count ≤ most_turns
 work_turned f a q =
-    let P : Worked → Type 0 = λ (w : Worked). w.code ≡ 0 → w.count ≤ most_turns in
+    let P : WorkedAnswer → Type 0 = λ (w : WorkedAnswer). w.code ≡ 0 → w.count ≤ most_turns in
     let b = divided f (power_for f a) a in
     by_way f a P (λ _. by_back f (power_for f a) (plain_of f b) P (λ _. plain_turned f b q) (λ _ c. absurd (omega arith))) (λ _. plain_turned f a q)
 
@@ -80,7 +80,7 @@ work_unturned f a q c =
     omega (arith, count)
 
 -- the mark and the count
-abbrev Made : ℕ → Worked → Type 0
+abbrev Made : ℕ → WorkedAnswer → Type 0
 Made most w = (among w.settled marks ≡ true) × (w.count ≤ most)
 
 work_made : (f : Format) (a : Asked) → (work_of f a).code ≡ 0 → Made (most_turns_of (kind_numbered a.kind)) (work_of f a)
@@ -112,14 +112,14 @@ module _ (f : Format) (s : List ℕ) where
   judged_made : (judged_of f s).code ≡ 0 → Made (most_turns_of (kind_numbered (kind_of s))) (judged_of f s)
   unfolding judged_of
   judged_made =
-      let P : Worked → Type 0 = λ (w : Worked). w.code ≡ 0 → Made (most_turns_of (kind_numbered (kind_of s))) w in
+      let P : WorkedAnswer → Type 0 = λ (w : WorkedAnswer). w.code ≡ 0 → Made (most_turns_of (kind_numbered (kind_of s))) w in
       by_eqb P (form_of f s) 0 (pick (used_finite (asked_of f s)) (work_of f (asked_of f s)) (refused_kind f 5 0)) (refused_kind f (form_of f s) 0)
       (λ _. chosen P (used_finite (asked_of f s)) (work_of f (asked_of f s)) (refused_kind f 5 0) (work_made f (asked_of f s)) (λ c. absurd (omega arith)))
       (λ n c. absurd (n c))
 
 -- ---- the head of a record
 
-record_head : (f : Format) (event : List ℕ) (kind : ℕ) (w : Worked) → length event ≡ event_bytes
+record_head : (f : Format) (event : List ℕ) (kind : ℕ) (w : WorkedAnswer) → length event ≡ event_bytes
     → head_of (record_of f event kind w) ≡ record { kind = kind; code = w.code; turns = w.count; mark = w.settled }
 record_head f event kind w h =
     rw (head_byte f event kind w 0 h, head_byte f event kind w 1 h, head_byte f event kind w 2 h, head_byte f event kind w 3 h)
@@ -172,8 +172,8 @@ module _ (f : Format) (s a : List ℕ) (room : length a ≡ answer_size f) where
 
 -- ---- any answer within the promise of the record step
 
-pub known_by_calls : (κs : Lfts 2) (a : _) (r : ℕ) (x : _) → answer-record.Post κs a r x → length a.1.0.now ≡ answer_size F
-    → Counted F a.0.now r x.1.0.now
+pub known_by_calls : (κs : Lfts 2) (a : _) (r : Result (Unit {0}) Refusal) (x : _) → answer-record.Post κs a r x → length a.1.0.now ≡ answer_size F
+    → Counted F a.0.now (code_of r) x.1.0.now
 known_by_calls κs a r x p room = rw (p.0, p.1) (answers_known F a.0.now a.1.0.now room)
 
 -- ---- the answers to a file of requests: none is foreign, and no byte is left over

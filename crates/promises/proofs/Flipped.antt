@@ -6,11 +6,9 @@ use Rattle.float.proofs.Words.{take-append_seam, drop-append-add, drop-drop, len
 use Rattle.float.specs.Sign.{all_finite}
 use Rattle.matrix.specs.Places.{at, tabulate, negated_of}
 use Rattle.matrix.proofs.Tables.{at-tabulate, tabulate-same, first_tabulate, negated-finite, length-tabulate}
-use Rattle.kinds.specs.Table.{kind_numbered}
-use Rattle.kinds.specs.Work.{first_of, refused_kind, used_finite}
+use Rattle.kinds.specs.Table.{Kind, kind_numbered}
+use Rattle.kinds.specs.Work.{WorkedAnswer, first_of, refused_kind, used_finite}
 use Rattle.kinds.specs.Ways.{work_of}
-use Rattle.kinds.specs.declared.table.Kind.{Kind}
-use Rattle.kinds.specs.declared.work.Worked.{Worked}
 use Rattle.wire.specs.Bytes.{number_bytes, place_of, word_of, part, number_at}
 use Rattle.wire.proofs.Words.{word_below}
 use Rattle.record.specs.Layout.{nine_at, request_size}
@@ -124,7 +122,8 @@ module _ (f : Format) where
 
 -- ---- the kind uses the first n of the nine numbers and none of the three. R is kept by a refusal, and by the kernel from a matrix to its negation.
 
-module _ (f : Format) (kind n : ℕ) (nine : (kind_numbered kind).nine ≡ n) (three : (kind_numbered kind).three ≡ 0) (most : n ≤ 9) (R : Worked → Worked → Type 0)
+module _ (f : Format) (kind n : ℕ) (nine : (kind_numbered kind).nine ≡ n) (three : (kind_numbered kind).three ≡ 0) (most : n ≤ 9)
+    (R : WorkedAnswer → WorkedAnswer → Type 0)
     (refused : (k : ℕ) → (k ≡ 0 → ⊥) → R (refused_kind f k 0) (refused_kind f k 0))
     (worked : (way : ℕ) (x y p q : List Float) → first_of n y ≡ negated_of n (first_of n x)
     → R (work_of f (record { kind = kind; way = way; nine = x; three = p })) (work_of f (record { kind = kind; way = way; nine = y; three = q }))) where

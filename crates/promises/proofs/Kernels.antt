@@ -11,23 +11,19 @@ use Rattle.cholesky.proofs.Stops.{unstopped}
 use Rattle.cholesky.proofs.Codes.{factor2_code, factor3_code, solved2_code, solved3_code}
 use Rattle.eigen.proofs.Answered as eigen
 use Rattle.eigen.proofs.Owed.{eigen2_code, eigen3_code}
-use Rattle.eigen.specs.declared.eigen2x2.Eigen2.{Eigen2}
-use Rattle.eigen.specs.declared.eigen3x3.Eigen3.{Eigen3}
 use Rattle.svd.proofs.Answered as svd
 use Rattle.svd.proofs.Owed.{svd2_code, svd3_code}
-use Rattle.svd.specs.declared.svd2x2.Svd2.{Svd2}
-use Rattle.svd.specs.declared.svd3x3.Svd3.{Svd3}
-use Rattle.kinds.specs.Table.{kind_numbered, known_kind}
-use Rattle.kinds.specs.Work.{first_of, padded, used_finite, answered_by, plain_of}
+use Rattle.kinds.specs.Table.{Kernel, Kind, kind_numbered, known_kind}
+use Rattle.kinds.specs.Work.{WorkedAnswer, Asked, first_of, padded, used_finite, answered_by, plain_of}
 use Rattle.kinds.specs.Ways.{is_scaled, times_all, power_for, divided, multiplied_back, work_of}
-use Rattle.kinds.specs.declared.table.Kind.{Kind}
-use Rattle.kinds.specs.declared.table.Kernel.{Kernel}
-use Rattle.kinds.specs.declared.work.Asked.{Asked}
-use Rattle.kinds.specs.declared.work.Worked.{Worked}
 use Rattle.kinds.proofs.Rows.{each_kind, each_known}
 use Rattle.kinds.proofs.Works.{Used, used, factor_code}
 use Rattle.kinds.proofs.BothWays.{divided_used, by_back, by_way}
 use Rattle.promises.specs.Conditions.{pivots_of, numbers_of, values_of}
+use Rattle.eigen.specs.Eigen2x2.{Eigen2Answer}
+use Rattle.eigen.specs.Eigen3x3.{EigenAnswer}
+use Rattle.svd.specs.Svd2x2.{Svd2Answer}
+use Rattle.svd.specs.Svd3x3.{SvdAnswer}
 
 -- u says that the used numbers are finite: then 5 is left out
 left_out : (u : Bool) {k c : ℕ} → k ≡ pick u c 5 → u ≡ true → k ≡ c
@@ -65,10 +61,10 @@ values_made f a =
     let nine = a.nine in
     each_kind (λ (k : Kind). k.scales ≡ true → (answered_by f k.kernel a).code ≡ 0 → (answered_by f k.kernel a).values ≡ values_of f k.kernel a)
     (λ e _. absurd (false≢true e))
-    (λ _ c. ap (λ (r : Eigen2). padded f 3 2 r.values) (eigen.answered2 f (first_of 3 nine) c).answer)
-    (λ _ c. ap (λ (r : Eigen3). padded f 3 3 r.values) (eigen.answered f (first_of 6 nine) c).answer)
-    (λ _ c. ap (λ (r : Svd2). padded f 3 2 r.values) (svd.answered2 f (first_of 4 nine) c).answer)
-    (λ _ c. ap (λ (r : Svd3). padded f 3 3 r.values) (svd.answered f (first_of 9 nine) c).answer)
+    (λ _ c. ap (λ (r : Eigen2Answer). padded f 3 2 r.values) (eigen.answered2 f (first_of 3 nine) c).answer)
+    (λ _ c. ap (λ (r : EigenAnswer). padded f 3 3 r.values) (eigen.answered f (first_of 6 nine) c).answer)
+    (λ _ c. ap (λ (r : Svd2Answer). padded f 3 2 r.values) (svd.answered2 f (first_of 4 nine) c).answer)
+    (λ _ c. ap (λ (r : SvdAnswer). padded f 3 3 r.values) (svd.answered f (first_of 9 nine) c).answer)
     (λ e _. absurd (false≢true e))
     (λ e _. absurd (false≢true e))
     (λ e _. absurd (false≢true e))
@@ -109,12 +105,12 @@ module _ (f : Format) (a : Asked) where
       (λ e.
       let done : w.code ≡ 0 = code ∙ (rw e) in
       rw (append_passes (numbers_of f kernel within) back_of e, ← values_made f within scales done)
-      (by_back f (power_for f a) w (λ (r : Worked). r.code ≡ pick (all_finite (times_all f (power_for f a) 3 w.values)) 0 7)
+      (by_back f (power_for f a) w (λ (r : WorkedAnswer). r.code ≡ pick (all_finite (times_all f (power_for f a) 3 w.values)) 0 7)
       (λ t. done ∙ (rw t)) (λ t. rw t)))
       (λ e.
       let seven : w.code ≡ 7 = code ∙ (rw e) in
       rw (append_fails (numbers_of f kernel within) back_of e)
-      (by_back f (power_for f a) w (λ (r : Worked). r.code ≡ 7) (λ _. seven) (λ _. refl)))
+      (by_back f (power_for f a) w (λ (r : WorkedAnswer). r.code ≡ 7) (λ _. seven) (λ _. refl)))
 
   pub scaled_unstopped : known_kind a.kind ≡ true → used_finite a ≡ true → is_scaled a ≡ true
       → Stopped (multiplied_back f (power_for f a) (plain_of f within)).code → ⊥
@@ -126,7 +122,7 @@ module _ (f : Format) (a : Asked) where
   pub kind_code : known_kind a.kind ≡ true → used_finite a ≡ true → (work_of f a).code ≡ pivot_code f (pivots_of f kernel a) (pick (all_finite made_of) 0 7)
   unfolding one
   kind_code known used =
-      by_way f a (λ (w : Worked). w.code ≡ pivot_code f (pivots_of f kernel a) (pick (all_finite made_of) 0 7))
+      by_way f a (λ (w : WorkedAnswer). w.code ≡ pivot_code f (pivots_of f kernel a) (pick (all_finite made_of) 0 7))
       (λ e.
       let scales = (both_true (kind_numbered a.kind).scales (eqb a.way 0) e).0 in
       rw (e, no_pivots f a scales) (scaled_code known used scales))

@@ -1,5 +1,8 @@
 -- What is left is the slice as it was, the answer to a request of the wrong size, or the answer to a request: each is looked at byte by byte.
 use Rattle.float.proofs.Words.{◌≡◌, refl, sym, ap, ◌∙◌, subst, not, List, [], ◌∷◌, ◌++◌, append_assoc, ℕ, zero, suc, ◌≤◌, arith, eqb, length}
+use Rattle.matrix.specs.Codes.{code_of}
+use Rattle.matrix.specs.declared.codes.Refusal.{Refusal}
+use Rattle.std.specs.Prelude.{Result}
 use Rattle.float.proofs.Words.{get_or, take, drop, replicate, length-append, take-append-drop, length-take-le, take-suc, take_at, drop-cons, get_or-drop}
 use Rattle.float.proofs.Words.{Format}
 use contract.Lifetimes.{Lfts}
@@ -9,9 +12,8 @@ use Rattle.float.specs.Exactly.{Exactly}
 use Rattle.float.specs.Sign.{all_finite}
 use Rattle.float.proofs.Choice.{chosen, whether}
 use Rattle.kinds.specs.Table.{kind_numbered, known_kind}
-use Rattle.kinds.specs.Work.{refused_kind, used_finite}
+use Rattle.kinds.specs.Work.{WorkedAnswer, refused_kind, used_finite}
 use Rattle.kinds.specs.Ways.{work_of}
-use Rattle.kinds.specs.declared.work.Worked.{Worked}
 use Rattle.kinds.proofs.Works.{Uncounted}
 use Rattle.kinds.proofs.BothWays.{work_uncounted}
 use Rattle.wire.specs.Bytes.{number_bytes_of}
@@ -33,7 +35,7 @@ use Rattle.promises.proofs.Marks.{judged_mark, judged-marked}
 
 -- ---- the head of a record
 
-record_event : (f : Format) (s : List ℕ) (w : Worked) → length s ≡ request_size f → take code_at (record_of f (take event_bytes s) (kind_of s) w)
+record_event : (f : Format) (s : List ℕ) (w : WorkedAnswer) → length s ≡ request_size f → take code_at (record_of f (take event_bytes s) (kind_of s) w)
     ≡ take code_at s
 unfolding record_of
 record_event f s w h =
@@ -63,7 +65,7 @@ module _ (f : Format) (s : List ℕ) where
   judged_uncounted : Uncounted (kind_numbered (kind_of s)).counts (judged_of f s)
   unfolding judged_of
   judged_uncounted =
-      let P : Worked → Type 0 = Uncounted (kind_numbered (kind_of s)).counts in
+      let P : WorkedAnswer → Type 0 = Uncounted (kind_numbered (kind_of s)).counts in
       chosen P (eqb (form_of f s) 0) (pick (used_finite (asked_of f s)) (work_of f (asked_of f s)) (refused_kind f 5 0)) (refused_kind f (form_of f s) 0)
       (chosen P (used_finite (asked_of f s)) (work_of f (asked_of f s)) (refused_kind f 5 0) (work_uncounted f (asked_of f s)) (λ _ _. refl)) (λ _ _. refl)
 
@@ -188,5 +190,6 @@ one_mark f s a l m x y =
 
 -- ---- any answer within the promise of the record step
 
-pub left_by_calls : (κs : Lfts 2) (a : _) (r : ℕ) (x : _) → answer-record.Post κs a r x → Leaves F a.0.now a.1.0.now r x.1.0.now
+pub left_by_calls : (κs : Lfts 2) (a : _) (r : Result (Unit {0}) Refusal) (x : _) → answer-record.Post κs a r x
+    → Leaves F a.0.now a.1.0.now (code_of r) x.1.0.now
 left_by_calls κs a r x p = rw (p.0, p.1) (leaves F a.0.now a.1.0.now)

@@ -13,13 +13,9 @@ use Rattle.svd.proofs.Counted as svd
 use Rattle.svd.proofs.Settled as svdMark
 use Rattle.cholesky.specs.Factor.{FactorAnswer}
 use Rattle.jacobi.specs.Blind.{mark_of}
-use Rattle.kinds.specs.Table.{kind_numbered}
-use Rattle.kinds.specs.Work.{first_of, done_mark, refused_kind, from_factor, used_finite, answered_by, plain_of}
+use Rattle.kinds.specs.Table.{Kernel, Kind, kind_numbered}
+use Rattle.kinds.specs.Work.{WorkedAnswer, Asked, first_of, done_mark, refused_kind, from_factor, used_finite, answered_by, plain_of}
 use Rattle.kinds.specs.Ways.{power_for, divided, worked_on, work_of}
-use Rattle.kinds.specs.declared.table.Kind.{Kind}
-use Rattle.kinds.specs.declared.table.Kernel.{Kernel}
-use Rattle.kinds.specs.declared.work.Asked.{Asked}
-use Rattle.kinds.specs.declared.work.Worked.{Worked}
 use Rattle.kinds.proofs.Rows.{each_kind}
 use Rattle.kinds.proofs.BothWays.{by_back, by_way, work_mark}
 use Rattle.record.specs.Request.{kind_of, asked_of, form_of, judged_of}
@@ -40,7 +36,7 @@ always e = ((λ _. tt), (λ _. e))
 factor_owed : (f : Format) (s : ℕ) (r : FactorAnswer) → (from_factor f s r).code ≡ 0 → Exactly ((from_factor f s r).settled ≡ 1) (Unit {0})
 unfolding from_factor
 factor_owed f s r =
-    by_eqb (λ (w : Worked). w.code ≡ 0 → Exactly (w.settled ≡ 1) (Unit {0})) r.code 0 _ _ (λ _ _. always refl) (λ n c. absurd (n c))
+    by_eqb (λ (w : WorkedAnswer). w.code ≡ 0 → Exactly (w.settled ≡ 1) (Unit {0})) r.code 0 _ _ (λ _ _. always refl) (λ n c. absurd (n c))
 
 plain_owed : (f : Format) (a : Asked) → (plain_of f a).code ≡ 0 → Exactly ((plain_of f a).settled ≡ 1) (MarkOwed f (kind_numbered a.kind).kernel a)
 unfolding answered_by
@@ -61,8 +57,8 @@ plain_owed f a =
 -- the mark is that of the matrix that is worked, and multiplying back does not change it
 work_owed : (f : Format) (a : Asked) → (work_of f a).code ≡ 0 → Exactly ((work_of f a).settled ≡ 1) (MarkOwed f (kind_numbered a.kind).kernel (worked_on f a))
 work_owed f a =
-    let Owed : Asked → Worked → Type 0 =
-    λ (b : Asked) (w : Worked). w.code ≡ 0 → Exactly (w.settled ≡ 1) (MarkOwed f (kind_numbered a.kind).kernel b) in
+    let Owed : Asked → WorkedAnswer → Type 0 =
+    λ (b : Asked) (w : WorkedAnswer). w.code ≡ 0 → Exactly (w.settled ≡ 1) (MarkOwed f (kind_numbered a.kind).kernel b) in
     by_way f a (Owed (worked_on f a))
     (λ e. rw e (by_back f (power_for f a) _ (Owed (divided f (power_for f a) a)) (λ _. plain_owed f (divided f (power_for f a) a))
     (λ _ c. absurd (omega arith))))
@@ -77,14 +73,14 @@ module _ (f : Format) (s : List ℕ) where
   pub judged_mark : (judged_of f s).settled ≤ 1
   unfolding judged_of
   judged_mark =
-      let P : Worked → Type 0 = λ (w : Worked). w.settled ≤ 1 in
+      let P : WorkedAnswer → Type 0 = λ (w : WorkedAnswer). w.settled ≤ 1 in
       chosen P (eqb (form_of f s) 0) (pick (used_finite (asked_of f s)) (work_of f (asked_of f s)) (refused_kind f 5 0)) (refused_kind f (form_of f s) 0)
       (chosen P (used_finite (asked_of f s)) (work_of f (asked_of f s)) (refused_kind f 5 0) (work_mark f (asked_of f s)) (omega arith)) (omega arith)
 
   pub judged-marked : (judged_of f s).code ≡ 0 → Exactly ((judged_of f s).settled ≡ 1) (MarkIn f s)
   unfolding judged_of
   judged-marked =
-      let P : Worked → Type 0 = λ (w : Worked). w.code ≡ 0 → Exactly (w.settled ≡ 1) (MarkIn f s) in
+      let P : WorkedAnswer → Type 0 = λ (w : WorkedAnswer). w.code ≡ 0 → Exactly (w.settled ≡ 1) (MarkIn f s) in
       by_eqb P (form_of f s) 0 (pick (used_finite (asked_of f s)) (work_of f (asked_of f s)) (refused_kind f 5 0)) (refused_kind f (form_of f s) 0)
       (λ _. chosen P (used_finite (asked_of f s)) (work_of f (asked_of f s)) (refused_kind f 5 0) (rw mark_in (work_owed f (asked_of f s)))
       (λ c. absurd (omega arith)))

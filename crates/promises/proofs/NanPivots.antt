@@ -1,5 +1,8 @@
 -- What 9 and 7 tell of a record: the numbers of a request are values of the format, so what holds of the factors of such numbers holds here, kind by kind.
 use Rattle.float.proofs.Words.{◌≡◌, refl, sym, ap, ◌∙◌, subst, subst⁻¹, Bool, true, false, true≢false, false≢true, List, [], ◌++◌, inl, inr, ⊎_elim, ℕ}
+use Rattle.matrix.specs.Codes.{code_of}
+use Rattle.matrix.specs.declared.codes.Refusal.{Refusal}
+use Rattle.std.specs.Prelude.{Result}
 use Rattle.float.proofs.Words.{◌≤◌, ◌<◌, arith, length, T, Float, Format, le, fits}
 use lib.Ieee.Bits.{of_bits-fits}
 use contract.Lifetimes.{Lfts}
@@ -19,10 +22,8 @@ use Rattle.cholesky.proofs.Rows.{none_passes}
 use Rattle.cholesky.proofs.NanPivots.{no_nan2, whole2_finite, whole3_finite, third_met, third_is_nan}
 use Rattle.cholesky.proofs.NanCodes.{nine_tests, not_nine, third_refused}
 use Rattle.kinds.specs.Table.{kind_numbered, known_kind}
-use Rattle.kinds.specs.Work.{first_of, refused_kind, used_finite}
+use Rattle.kinds.specs.Work.{WorkedAnswer, Asked, first_of, refused_kind, used_finite}
 use Rattle.kinds.specs.Ways.{work_of}
-use Rattle.kinds.specs.declared.work.Asked.{Asked}
-use Rattle.kinds.specs.declared.work.Worked.{Worked}
 use Rattle.kinds.proofs.Works.{Used, used}
 use Rattle.wire.specs.Bytes.{place_of, number_at}
 use Rattle.record.specs.Layout.{nine_at, request_size, answer_size}
@@ -125,7 +126,7 @@ module _ (f : Format) (s : List ℕ) where
   judged_asks : (k : ℕ) → 5 < k → (judged_of f s).code ≡ k → Asking k
   unfolding judged_of
   judged_asks k h =
-      let P : Worked → Type 0 = λ (w : Worked). w.code ≡ k → Asking k in
+      let P : WorkedAnswer → Type 0 = λ (w : WorkedAnswer). w.code ≡ k → Asking k in
       by_eqb P (form_of f s) 0 (pick (used_finite (asked_of f s)) (work_of f (asked_of f s)) (refused_kind f 5 0)) (refused_kind f (form_of f s) 0)
       (λ e. by_test P (used_finite (asked_of f s)) (work_of f (asked_of f s)) (refused_kind f 5 0) (λ u c. (form_known e, u, c)) (λ _ c. absurd (omega arith)))
       (λ _ c. absurd (omega (arith, form_most)))
@@ -202,9 +203,9 @@ module _ (f : Format) (s : List ℕ) where
 
 -- ---- any answer within the promise of the record step
 
-pub nine_by_calls : (κs : Lfts 2) (a : _) (r : ℕ) (x : _) → answer-record.Post κs a r x → r ≡ 9 → Nine F a.0.now x.1.0.now
+pub nine_by_calls : (κs : Lfts 2) (a : _) (r : Result (Unit {0}) Refusal) (x : _) → answer-record.Post κs a r x → code_of r ≡ 9 → Nine F a.0.now x.1.0.now
 nine_by_calls κs a r x p e = rw p.1 (nine_means F a.0.now a.1.0.now (sym p.0 ∙ e))
 
-pub seven_by_calls : (κs : Lfts 2) (a : _) (r : ℕ) (x : _) → answer-record.Post κs a r x → r ≡ 7
+pub seven_by_calls : (κs : Lfts 2) (a : _) (r : Result (Unit {0}) Refusal) (x : _) → answer-record.Post κs a r x → code_of r ≡ 7
     → Seven F (kernel_numbered (kind_in a.0.now)) (given F a.0.now)
 seven_by_calls κs a r x p e = seven_means F a.0.now a.1.0.now (sym p.0 ∙ e)

@@ -8,13 +8,9 @@ use Rattle.cholesky.specs.Factor.{FactorAnswer}
 use Rattle.cholesky.specs.Pivots.{one, refused_pivot, Stopped}
 use Rattle.cholesky.proofs.Stops.{unstopped}
 use Rattle.cholesky.proofs.Codes.{factor2_pivot, factor3_pivot, solved2_pivot, solved3_pivot}
-use Rattle.kinds.specs.Table.{kind_numbered, known_kind}
-use Rattle.kinds.specs.Work.{first_of, refused_kind, from_factor, used_finite, answered_by}
+use Rattle.kinds.specs.Table.{Eigen2x2, Eigen3x3, Svd2x2, Svd3x3, Kind, kind_numbered, known_kind}
+use Rattle.kinds.specs.Work.{WorkedAnswer, Asked, first_of, refused_kind, from_factor, used_finite, answered_by}
 use Rattle.kinds.specs.Ways.{work_of}
-use Rattle.kinds.specs.declared.table.Kind.{Kind}
-use Rattle.kinds.specs.declared.table.Kernel.TheVariants.{Eigen2x2, Eigen3x3, Svd2x2, Svd3x3}
-use Rattle.kinds.specs.declared.work.Asked.{Asked}
-use Rattle.kinds.specs.declared.work.Worked.{Worked}
 use Rattle.kinds.proofs.Rows.{each_kind}
 use Rattle.kinds.proofs.Works.{factor_code}
 use Rattle.kinds.proofs.BothWays.{by_way}
@@ -28,7 +24,7 @@ factor_hands : (f : Format) (s pivot : ℕ) (r : FactorAnswer) → (Stopped r.co
     → Stopped (from_factor f s r).code → (from_factor f s r).count ≡ pivot
 unfolding from_factor
 factor_hands f s pivot r h c =
-    by_eqb (λ (w : Worked). Stopped w.code → w.count ≡ pivot) r.code 0 _ _
+    by_eqb (λ (w : WorkedAnswer). Stopped w.code → w.count ≡ pivot) r.code 0 _ _
     (λ _ c. absurd (unstopped 0 refl c)) (λ _ _. h (subst Stopped (factor_code f s r) c)) c
 
 -- ---- the kinds
@@ -62,7 +58,7 @@ module _ (f : Format) (a : Asked) where
       → (work_of f a).count ≡ refused_pivot f 1 (pivots_of f (kind_numbered a.kind).kernel a)
   unfolding one
   work_hands known used =
-      by_way f a (λ (w : Worked). Stopped w.code → w.count ≡ refused_pivot f 1 (pivots_of f (kind_numbered a.kind).kernel a))
+      by_way f a (λ (w : WorkedAnswer). Stopped w.code → w.count ≡ refused_pivot f 1 (pivots_of f (kind_numbered a.kind).kernel a))
       (λ e c. absurd (scaled_unstopped f a known used e c)) (λ _. plain_hands a.kind (plain_code f a known used))
 
 -- ---- the record
@@ -81,7 +77,7 @@ unfolding judged_of form_of
 pivot_given f s =
     let a = asked_of f s in
     let kind = kind_numbered (kind_of s) in
-    let P : Worked → Type 0 = λ (w : Worked). Stopped w.code → w.count ≡ refused_pivot f 1 (pivots_of f kind.kernel a) in
+    let P : WorkedAnswer → Type 0 = λ (w : WorkedAnswer). Stopped w.code → w.count ≡ refused_pivot f 1 (pivots_of f kind.kernel a) in
     rw (pivots_in_lem f s)
     (by_eqb P (form_of f s) 0 (pick (used_finite a) (work_of f a) (refused_kind f 5 0)) (refused_kind f (form_of f s) 0)
     (λ e. by_test P (used_finite a) (work_of f a) (refused_kind f 5 0)

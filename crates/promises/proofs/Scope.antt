@@ -6,11 +6,9 @@ use Rattle.float.specs.Sign.{all_finite}
 use Rattle.float.specs.Scaled.{power_of}
 use Rattle.float.proofs.Finite.{all_finite-append}
 use Rattle.matrix.proofs.Tables.{tabulate-same, first_tabulate}
-use Rattle.kinds.specs.Table.{unknown, kind_numbered}
-use Rattle.kinds.specs.Work.{first_of, used_finite}
+use Rattle.kinds.specs.Table.{Kernel, unknown, kind_numbered}
+use Rattle.kinds.specs.Work.{Asked, first_of, used_finite}
 use Rattle.kinds.specs.Ways.{is_scaled, times_all, power_for, divided, worked_on}
-use Rattle.kinds.specs.declared.table.Kernel.{Kernel}
-use Rattle.kinds.specs.declared.work.Asked.{Asked}
 use Rattle.kinds.proofs.Rows.{nine_most, three_most}
 use Rattle.wire.specs.Bytes.{number_bytes, place_of, word_of, number_at, numbers_from}
 use Rattle.record.specs.Layout.{nine_at, three_at, request_size, answer_size}

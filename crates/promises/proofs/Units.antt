@@ -21,13 +21,10 @@ use Rattle.eigen.proofs.Fits as eigen
 use Rattle.svd.specs.Svd2x2.{svd2_of}
 use Rattle.svd.specs.Svd3x3.{svd_of}
 use Rattle.svd.proofs.Fits as svd
-use Rattle.kinds.specs.Table.{kind_numbered}
-use Rattle.kinds.specs.Work.{first_of, padded, refused_kind, from_eigen2, from_eigen3, from_svd2, from_svd3, used_finite, answered_by, plain_of}
+use Rattle.kinds.specs.Table.{Kernel, Kind, kind_numbered}
+use Rattle.kinds.specs.Work.{Asked, first_of, padded, refused_kind, from_eigen2, from_eigen3, from_svd2, from_svd3, used_finite, answered_by, plain_of}
+use Rattle.kinds.specs.Work.{WorkedAnswer}
 use Rattle.kinds.specs.Ways.{is_scaled, times_all, power_for, divided, multiplied_back, work_of}
-use Rattle.kinds.specs.declared.table.Kind.{Kind}
-use Rattle.kinds.specs.declared.table.Kernel.{Kernel}
-use Rattle.kinds.specs.declared.work.Asked.{Asked}
-use Rattle.kinds.specs.declared.work.Worked.{Worked}
 use Rattle.kinds.proofs.Rows.{each_kind, nine_most}
 use Rattle.kinds.proofs.Works.{Clear, plain_clear}
 use Rattle.kinds.proofs.BothWays.{back_refused, back_kept}
@@ -120,8 +117,8 @@ plain_fit f a s h =
 
 -- ---- what a kind answers: b is a with other numbers
 
-record Twice (f : Format) (j k : ℤ) (p : Worked) (v : List Float) (x y : Worked) : Type 0 where
-  work : Worked
+record Twice (f : Format) (j k : ℤ) (p : WorkedAnswer) (v : List Float) (x y : WorkedAnswer) : Type 0 where
+  work : WorkedAnswer
   this : x ≡ multiplied_back f k work
   that : y ≡ multiplied_back f (k +ℤ j) work
   clear : Clear f work
@@ -164,7 +161,7 @@ module _ (f : Format) (j : ℤ) (a : Asked) (y q : List Float) (scaled : is_scal
             ∙ ap (λ (p : ℤ). multiplied_back f p (plain_of f (divided f p b))) power ∙ ap (multiplied_back f (k +ℤ j)) same;
       }
 
-refused_twice : (f : Format) (j k : ℤ) (p : Worked) (v : List Float) (code : ℕ) → (code ≡ 0 → ⊥)
+refused_twice : (f : Format) (j k : ℤ) (p : WorkedAnswer) (v : List Float) (code : ℕ) → (code ≡ 0 → ⊥)
     → Twice f j k p v (refused_kind f code 0) (refused_kind f code 0)
 refused_twice f j k p v code n = record {
   work = refused_kind f code 0;
@@ -239,7 +236,7 @@ module _ (f : Format) (j : ℤ) (s t : List ℕ) (o : OtherUnits f j s t) where
   abbrev small : Asked
   small = divided f (power_for f asked) asked
 
-  abbrev SameTwice : Worked → Worked → Type 0
+  abbrev SameTwice : WorkedAnswer → WorkedAnswer → Type 0
   SameTwice = Twice f j (power_for f asked) (plain_of f small) (values_of f (kind_numbered (kind_of s)).kernel small)
 
   twice : SameTwice (judged_of f s) (judged_of f t)

@@ -12,21 +12,20 @@ use Rattle.cholesky.specs.Factor.{FactorAnswer}
 use Rattle.cholesky.specs.Solve.{SolvedAnswer}
 use Rattle.cholesky.proofs.Owed.{factor2_owed, factor3_owed, solved2_owed, solved3_owed}
 use Rattle.eigen.proofs.Owed.{eigen2_owed, eigen3_owed}
-use Rattle.eigen.specs.declared.eigen2x2.Eigen2.{Eigen2}
-use Rattle.eigen.specs.declared.eigen3x3.Eigen3.{Eigen3}
 use Rattle.svd.proofs.Owed.{svd2_owed, svd3_owed}
-use Rattle.svd.specs.declared.svd2x2.Svd2.{Svd2}
-use Rattle.svd.specs.declared.svd3x3.Svd3.{Svd3}
-use Rattle.kinds.specs.Work.{first_of, padded, refused_kind, from_eigen2, from_eigen3, from_svd2, from_svd3, from_factor, from_solved, used_finite}
+use Rattle.kinds.specs.Work.{Asked, first_of, padded, refused_kind, from_eigen2, from_eigen3, from_svd2, from_svd3, from_factor, from_solved, used_finite}
 use Rattle.kinds.specs.Work.{answered_by, plain_of}
 use Rattle.kinds.specs.Ways.{power_for, divided, work_of}
-use Rattle.kinds.specs.declared.table.Kind.{Kind}
-use Rattle.kinds.specs.declared.work.Asked.{Asked}
 use Rattle.kinds.proofs.Rows.{each_kind}
 use Rattle.kinds.proofs.BothWays.{by_back, by_way}
 use Rattle.record.specs.Request.{asked_of, form_of, judged_of}
 use Rattle.record.proofs.Answers.{judged-sized}
 use Rattle.promises.specs.Vouched.{Vouched}
+use Rattle.eigen.specs.Eigen2x2.{Eigen2Answer}
+use Rattle.eigen.specs.Eigen3x3.{EigenAnswer}
+use Rattle.svd.specs.Svd2x2.{Svd2Answer}
+use Rattle.svd.specs.Svd3x3.{SvdAnswer}
+use Rattle.kinds.specs.Table.{Kind}
 
 -- ---- numbers in their places
 
@@ -56,13 +55,13 @@ module _ (f : Format) (a : Asked) where
       let three = a.three in
       let zero = refused_vouched f 0 0 in
       each_kind (λ (k : Kind). Vouched (answered_by f k.kernel a)) zero
-      (by_owed (eigen2_owed f (first_of 3 nine)) (λ (r : Eigen2). Vouched (from_eigen2 f r))
+      (by_owed (eigen2_owed f (first_of 3 nine)) (λ (r : Eigen2Answer). Vouched (from_eigen2 f r))
       (λ h. (padded-finite f 3 2 _ h.0 h.1, padded-finite f 9 4 _ h.2.0 h.2.1, zeros-finite f 9)) zero)
-      (by_owed (eigen3_owed f (first_of 6 nine) refl) (λ (r : Eigen3). Vouched (from_eigen3 f r))
+      (by_owed (eigen3_owed f (first_of 6 nine) refl) (λ (r : EigenAnswer). Vouched (from_eigen3 f r))
       (λ h. (padded-finite f 3 3 _ h.0 h.1, padded-finite f 9 9 _ h.2.0 h.2.1, zeros-finite f 9)) zero)
-      (by_owed (svd2_owed f (first_of 4 nine)) (λ (r : Svd2). Vouched (from_svd2 f r))
+      (by_owed (svd2_owed f (first_of 4 nine)) (λ (r : Svd2Answer). Vouched (from_svd2 f r))
       (λ h. (padded-finite f 3 2 _ h.0 h.1, padded-finite f 9 4 _ h.2.0 h.2.1, padded-finite f 9 4 _ h.2.2.0 h.2.2.1)) zero)
-      (by_owed (svd3_owed f (first_of 9 nine) refl) (λ (r : Svd3). Vouched (from_svd3 f r))
+      (by_owed (svd3_owed f (first_of 9 nine) refl) (λ (r : SvdAnswer). Vouched (from_svd3 f r))
       (λ h. (padded-finite f 3 3 _ h.0 h.1, padded-finite f 9 9 _ h.2.0 h.2.1, padded-finite f 9 9 _ h.2.2.0 h.2.2.1)) zero)
       (factor_vouched f 3 _ (λ e. let h = (factor2_owed f (zeros f 3) (first_of 3 nine) refl).full e in (h.0, h.1)))
       (factor_vouched f 6 _ (λ e. let h = (factor3_owed f (zeros f 6) (first_of 6 nine) refl).full e in (h.0, h.1)))

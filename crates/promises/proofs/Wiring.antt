@@ -1,5 +1,8 @@
 -- Reversed wiring at the record: of the kernel's answers the theorems `reversed` and `reversed2` tell, and the flipped request is answered by them.
 use Rattle.float.proofs.Words.{◌≡◌, refl, sym, ap, ◌∙◌, subst, subst₂, Bool, true, false, ◌&&◌, true≢false, List, map, inl, inr, ℕ, ◌+◌, ◌≤◌, ◌<◌, arith, ℤ}
+use Rattle.matrix.specs.Codes.{code_of}
+use Rattle.matrix.specs.declared.codes.Refusal.{Refusal}
+use Rattle.std.specs.Prelude.{Result}
 use Rattle.float.proofs.Words.{neg_ℤ, length, get_or, take, Float, Format}
 use contract.Lifetimes.{Lfts}
 use Rattle.float.specs.Width.{F}
@@ -14,21 +17,18 @@ use Rattle.matrix.proofs.Tables.{at-tabulate, tabulate_all}
 use Rattle.jacobi.specs.Blind.{mark_of}
 use Rattle.jacobi.specs.declared.made.Made.{Made}
 use Rattle.eigen.specs.Eigen2x2.{eigen2_of}
-use Rattle.eigen.specs.Eigen3x3.{eigen_of}
+use Rattle.eigen.specs.Eigen3x3.{EigenAnswer, eigen_of}
 use Rattle.eigen.specs.Reversed.{Opposite, Differ, AllDiffer, ValuesExchanged, ColumnsExchanged, Reversed}
 use Rattle.eigen.specs.Reversed2x2 as eigen2
 use Rattle.eigen.proofs.Fits.{values2_length}
 use Rattle.eigen.proofs.Reversed.{reversed}
 use Rattle.eigen.proofs.Reversed2x2 as eigen2x2
-use Rattle.eigen.specs.declared.eigen3x3.Eigen3.{Eigen3}
 use Rattle.svd.specs.Svd2x2.{svd2_of}
 use Rattle.svd.specs.Reversed2x2 as svd2
 use Rattle.svd.proofs.Reversed2x2 as svd2x2
 use Rattle.kinds.specs.Table.{kind_numbered}
-use Rattle.kinds.specs.Work.{first_of, padded, from_eigen3, refused_kind, answered_by, plain_of}
+use Rattle.kinds.specs.Work.{WorkedAnswer, Asked, first_of, padded, from_eigen3, refused_kind, answered_by, plain_of}
 use Rattle.kinds.specs.Ways.{is_scaled, times_all, power_for, divided, revalued, multiplied_back, work_of}
-use Rattle.kinds.specs.declared.work.Asked.{Asked}
-use Rattle.kinds.specs.declared.work.Worked.{Worked}
 use Rattle.kinds.proofs.Works.{plain-sized, plain_clear}
 use Rattle.kinds.proofs.BothWays.{by_back, back_kept}
 use Rattle.wire.specs.Bytes.{part}
@@ -47,8 +47,8 @@ use Rattle.promises.proofs.Flipped.{flipped-size, flipped_kept}
 -- ---- the head of an answer, byte by byte
 
 module _ (f : Format) (s : List ℕ) (size : length s ≡ request_size f) where
-  code_of : get_or (answered_of f s) (event_bytes + 1) 0 ≡ (judged_of f s).code
-  code_of = head_byte f (take event_bytes s) (kind_of s) (judged_of f s) 1 (event_length f s size)
+  code_of_lem : get_or (answered_of f s) (event_bytes + 1) 0 ≡ (judged_of f s).code
+  code_of_lem = head_byte f (take event_bytes s) (kind_of s) (judged_of f s) 1 (event_length f s size)
 
   pub count_of : get_or (answered_of f s) (event_bytes + 2) 0 ≡ (judged_of f s).count
   count_of = head_byte f (take event_bytes s) (kind_of s) (judged_of f s) 2 (event_length f s size)
@@ -59,7 +59,7 @@ module _ (f : Format) (s : List ℕ) (size : length s ≡ request_size f) where
 -- ---- the answers of the kernel
 
 -- what `ReversedRecords` asks, before the answers are bytes
-record Alike (x y : Worked) : Type 0 where
+record Alike (x y : WorkedAnswer) : Type 0 where
   pub codes : x.code ≡ y.code
   pub counts : x.count ≡ y.count
   pub marks : x.settled ≡ y.settled
@@ -69,7 +69,7 @@ record Alike (x y : Worked) : Type 0 where
 refused_alike : (f : Format) (k : ℕ) → (k ≡ 0 → ⊥) → Alike (refused_kind f k 0) (refused_kind f k 0)
 refused_alike f k n = record { codes = refl; counts = refl; marks = refl; values = (λ e. absurd (n e)); columns = (λ e _. absurd (n e)) }
 
-eigen_alike : (f : Format) (r q : Eigen3) → Reversed r q → Alike (from_eigen3 f r) (from_eigen3 f q)
+eigen_alike : (f : Format) (r q : EigenAnswer) → Reversed r q → Alike (from_eigen3 f r) (from_eigen3 f q)
 eigen_alike f r q h =
     record { codes = h.codes; counts = ap (λ (m : Made). m.count) h.made; marks = ap mark_of h.marks; values = h.values; columns = h.columns }
 
@@ -96,10 +96,10 @@ mirrored a b c d e g p q r = rw (p, q, r) (turned g e d)
     turned false false false = refl
 
 module _ (f : Format) (k : ℤ) (a b : Asked) (h : Alike (plain_of f a) (plain_of f b)) where
-  abbrev ours : Worked
+  abbrev ours : WorkedAnswer
   ours = plain_of f a
 
-  abbrev theirs : Worked
+  abbrev theirs : WorkedAnswer
   theirs = plain_of f b
 
   abbrev our_value : ℕ → Float
@@ -141,10 +141,10 @@ module _ (f : Format) (k : ℤ) (a b : Asked) (h : Alike (plain_of f a) (plain_o
 
     done_alike : Alike (multiplied_back f k ours) (multiplied_back f k theirs)
     done_alike =
-        by_back f k ours (λ (u : Worked). Alike u (multiplied_back f k theirs))
-        (λ t. by_back f k theirs (λ (v : Worked). Alike (revalued (times_all f k 3 ours.values) ours) v) (λ _. times_alike t)
+        by_back f k ours (λ (u : WorkedAnswer). Alike u (multiplied_back f k theirs))
+        (λ t. by_back f k theirs (λ (v : WorkedAnswer). Alike (revalued (times_all f k 3 ours.values) ours) v) (λ _. times_alike t)
         (λ e. absurd (true≢false (sym t ∙ tests ∙ e))))
-        (λ t. by_back f k theirs (λ (v : Worked). Alike (refused_kind f 7 0) v) (λ e. absurd (true≢false (sym e ∙ sym tests ∙ t)))
+        (λ t. by_back f k theirs (λ (v : WorkedAnswer). Alike (refused_kind f 7 0) v) (λ e. absurd (true≢false (sym e ∙ sym tests ∙ t)))
         (λ _. refused_alike f 7 (λ e. absurd (omega arith))))
 
   back_alike : Alike (multiplied_back f k ours) (multiplied_back f k theirs)
@@ -154,10 +154,10 @@ module _ (f : Format) (k : ℤ) (a b : Asked) (h : Alike (plain_of f a) (plain_o
 
 -- ---- both ways, of a kind that uses n of the nine numbers. What the kernel's answers keep is R, and what is handed back keeps is S
 
-module _ (f : Format) (kind n : ℕ) (nine : (kind_numbered kind).nine ≡ n) (most : n ≤ 9) (R S : Worked → Worked → Type 0)
+module _ (f : Format) (kind n : ℕ) (nine : (kind_numbered kind).nine ≡ n) (most : n ≤ 9) (R S : WorkedAnswer → WorkedAnswer → Type 0)
     (plain : (way : ℕ) (x y p q : List Float) → first_of n y ≡ negated_of n (first_of n x)
     → R (plain_of f (record { kind = kind; way = way; nine = x; three = p })) (plain_of f (record { kind = kind; way = way; nine = y; three = q })))
-    (stays : (u v : Worked) → R u v → S u v)
+    (stays : (u v : WorkedAnswer) → R u v → S u v)
     (back : (k : ℤ) (a b : Asked) → R (plain_of f a) (plain_of f b) → S (multiplied_back f k (plain_of f a)) (multiplied_back f k (plain_of f b))) where
   both_ways : (way : ℕ) (x y p q : List Float) → first_of n y ≡ negated_of n (first_of n x)
       → S (work_of f (record { kind = kind; way = way; nine = x; three = p })) (work_of f (record { kind = kind; way = way; nine = y; three = q }))
@@ -182,7 +182,7 @@ reversed_records f s h k b =
     let m = flipped-size f 6 s (omega arith) h in
     let r = flipped_kept f 2 6 refl refl (omega arith) Alike (refused_alike f) (three_alike f) s h b k in
     record {
-      codes = code_of f s h ∙ r.codes ∙ sym (code_of f t m);
+      codes = code_of_lem f s h ∙ r.codes ∙ sym (code_of_lem f t m);
       counts = count_of f s h ∙ r.counts ∙ sym (count_of f t m);
       marks = mark_of_lem f s h ∙ r.marks ∙ sym (mark_of_lem f t m);
       values = r.values;
@@ -192,18 +192,18 @@ reversed_records f s h k b =
 
 -- ---- any request of kind 1 or 3
 
-abbrev SameMark : Worked → Worked → Type 0
+abbrev SameMark : WorkedAnswer → WorkedAnswer → Type 0
 SameMark x y = (x.code ≡ y.code) × (x.settled ≡ y.settled)
 
 -- and the values are finite for both or for none, whatever they are multiplied by
-abbrev SameReach : Format → Worked → Worked → Type 0
+abbrev SameReach : Format → WorkedAnswer → WorkedAnswer → Type 0
 SameReach f x y = SameMark x y × ((k : ℤ) → all_finite (times_all f k 3 x.values) ≡ all_finite (times_all f k 3 y.values))
 
-back_mark : (f : Format) (k : ℤ) (x y : Worked) → SameReach f x y → SameMark (multiplied_back f k x) (multiplied_back f k y)
+back_mark : (f : Format) (k : ℤ) (x y : WorkedAnswer) → SameReach f x y → SameMark (multiplied_back f k x) (multiplied_back f k y)
 back_mark f k x y h =
-    by_back f k x (λ (u : Worked). SameMark u (multiplied_back f k y))
-    (λ t. by_back f k y (λ (v : Worked). SameMark (revalued (times_all f k 3 x.values) x) v) (λ _. h.0) (λ e. absurd (true≢false (sym t ∙ h.1 k ∙ e))))
-    (λ t. by_back f k y (λ (v : Worked). SameMark (refused_kind f 7 0) v) (λ e. absurd (true≢false (sym e ∙ sym (h.1 k) ∙ t))) (λ _. (refl, refl)))
+    by_back f k x (λ (u : WorkedAnswer). SameMark u (multiplied_back f k y))
+    (λ t. by_back f k y (λ (v : WorkedAnswer). SameMark (revalued (times_all f k 3 x.values) x) v) (λ _. h.0) (λ e. absurd (true≢false (sym t ∙ h.1 k ∙ e))))
+    (λ t. by_back f k y (λ (v : WorkedAnswer). SameMark (refused_kind f 7 0) v) (λ e. absurd (true≢false (sym e ∙ sym (h.1 k) ∙ t))) (λ _. (refl, refl)))
 
 -- two values and a zero behind them
 pair_made : (f : Format) (k : ℤ) (v : List Float) → length v ≡ 2 → all_finite (times_all f k 3 (padded f 3 2 v)) ≡ all_finite (map (times_power f k) v)
@@ -244,7 +244,7 @@ svd_marks f = both_ways f 3 4 refl (omega arith) (SameReach f) SameMark (svd_rea
 
 by_marks : (f : Format) (s t : List ℕ) → length s ≡ request_size f → length t ≡ request_size f → SameMark (judged_of f s) (judged_of f t) → ReversedMarks f s t
 by_marks f s t m n r = record {
-  codes = code_of f s m ∙ r.0 ∙ sym (code_of f t n);
+  codes = code_of_lem f s m ∙ r.0 ∙ sym (code_of_lem f t n);
   marks = mark_of_lem f s m ∙ r.1 ∙ sym (mark_of_lem f t n);
 }
 
@@ -265,10 +265,10 @@ reversed_pairs f s t h b (inr e) =
 -- ---- any two answers within the promise of the record step, of which the second is to the flipped request
 
 -- the codes handed back are those of the answers, and the answers stand in the slices
-module _ (κs : Lfts 2) (a b : _) (r q : ℕ) (x y : _) (p : answer-record.Post κs a r x) (w : answer-record.Post κs b q y)
+module _ (κs : Lfts 2) (a b : _) (r q : Result (Unit {0}) Refusal) (x y : _) (p : answer-record.Post κs a r x) (w : answer-record.Post κs b q y)
     (u : length a.1.0.now ≡ answer_size F) (v : length b.1.0.now ≡ answer_size F)
     (n : length a.0.now ≡ request_size F) (m : length b.0.now ≡ request_size F) where
-  same_codes : SameByte F code_at a.0.now b.0.now → r ≡ q
+  same_codes : SameByte F code_at a.0.now b.0.now → code_of r ≡ code_of q
   same_codes h =
       let code : List ℕ → ℕ = λ (z : List ℕ). get_or z code_at 0 in
       p.0 ∙ sym (code_in_place F a.0.now a.1.0.now u) ∙ ap code (stepped F a.0.now a.1.0.now n u) ∙ h
@@ -277,10 +277,10 @@ module _ (κs : Lfts 2) (a b : _) (r q : ℕ) (x y : _) (p : answer-record.Post 
   pub stands : (x.1.0.now ≡ answered_of F a.0.now) × (y.1.0.now ≡ answered_of F b.0.now)
   stands = (p.1 ∙ stepped F a.0.now a.1.0.now n u, w.1 ∙ stepped F b.0.now b.1.0.now m v)
 
-pub reversed_calls : (κs : Lfts 2) (a b : _) (r q : ℕ) (x y : _) → answer-record.Post κs a r x → answer-record.Post κs b q y
+pub reversed_calls : (κs : Lfts 2) (a b : _) (r q : Result (Unit {0}) Refusal) (x y : _) → answer-record.Post κs a r x → answer-record.Post κs b q y
     → length a.1.0.now ≡ answer_size F → length b.1.0.now ≡ answer_size F
     → length a.0.now ≡ request_size F → kind_of a.0.now ≡ 2 → Bytes a.0.now → b.0.now ≡ flipped F a.0.now
-    → (r ≡ q) × (x.1.0.now ≡ answered_of F a.0.now) × (y.1.0.now ≡ answered_of F b.0.now) × ReversedRecords F a.0.now b.0.now
+    → (code_of r ≡ code_of q) × (x.1.0.now ≡ answered_of F a.0.now) × (y.1.0.now ≡ answered_of F b.0.now) × ReversedRecords F a.0.now b.0.now
 reversed_calls κs a b r q x y p w u v n k c e =
     let s = a.0.now in
     let t = b.0.now in
@@ -289,10 +289,10 @@ reversed_calls κs a b r q x y p w u v n k c e =
     let d = stands κs a b r q x y p w u v n m in
     (same_codes κs a b r q x y p w u v n m h.codes, d.0, d.1, h)
 
-pub reversed_pairs_calls : (κs : Lfts 2) (a b : _) (r q : ℕ) (x y : _) → answer-record.Post κs a r x → answer-record.Post κs b q y
+pub reversed_pairs_calls : (κs : Lfts 2) (a b : _) (r q : Result (Unit {0}) Refusal) (x y : _) → answer-record.Post κs a r x → answer-record.Post κs b q y
     → length a.1.0.now ≡ answer_size F → length b.1.0.now ≡ answer_size F
     → length a.0.now ≡ request_size F → Bytes a.0.now → PairFlipped F a.0.now b.0.now
-    → (r ≡ q) × (get_or x.1.0.now 7 0 ≡ get_or y.1.0.now 7 0)
+    → (code_of r ≡ code_of q) × (get_or x.1.0.now 7 0 ≡ get_or y.1.0.now 7 0)
 reversed_pairs_calls κs a b r q x y p w u v n c e =
     let h = reversed_pairs F a.0.now b.0.now n c e in
     let d = stands κs a b r q x y p w u v n h.0 in
@@ -300,16 +300,16 @@ reversed_pairs_calls κs a b r q x y p w u v n c e =
 
 -- ---- the same in bytes of the two answers: in doubles the three columns stand from bytes 32, 56 and 80 on
 
-pub reversed_bytes : (κs : Lfts 2) (a b : _) (r q : ℕ) (x y : _) → answer-record.Post κs a r x → answer-record.Post κs b q y
+pub reversed_bytes : (κs : Lfts 2) (a b : _) (r q : Result (Unit {0}) Refusal) (x y : _) → answer-record.Post κs a r x → answer-record.Post κs b q y
     → length a.1.0.now ≡ 176 → length b.1.0.now ≡ 176
     → length a.0.now ≡ 104 → kind_of a.0.now ≡ 2 → Bytes a.0.now → b.0.now ≡ flipped F a.0.now
     → let this = x.1.0.now in let that = y.1.0.now in
-    (r ≡ q) × (get_or this 6 0 ≡ get_or that 6 0) × (get_or this 7 0 ≡ get_or that 7 0)
-    × (r ≡ 0 → AllDiffer (judged_of F a.0.now).values
+    (code_of r ≡ code_of q) × (get_or this 6 0 ≡ get_or that 6 0) × (get_or this 7 0 ≡ get_or that 7 0)
+    × (code_of r ≡ 0 → AllDiffer (judged_of F a.0.now).values
     → (part 32 24 this ≡ part 80 24 that) × (part 56 24 this ≡ part 56 24 that) × (part 80 24 this ≡ part 32 24 that))
 reversed_bytes κs a b r q x y p w u v n k c e =
     let h = reversed_calls κs a b r q x y p w u v n k c e in
     let g = h.3 in
-    let code : r ≡ 0 → (judged_of F a.0.now).code ≡ 0 =
+    let code : code_of r ≡ 0 → (judged_of F a.0.now).code ≡ 0 =
     λ z. sym (ap (λ (t : Step). t.code) (with_room F a.0.now a.1.0.now u n)) ∙ sym p.0 ∙ z in
     rw (h.1, h.2) (h.0, g.counts, g.marks, (λ z d. g.bytes (code z) d))

@@ -13,12 +13,10 @@ use Rattle.eigen.specs.Eigen2x2 as eigen2
 use Rattle.eigen.specs.Eigen3x3 as eigen3
 use Rattle.svd.specs.Svd2x2 as svd2
 use Rattle.svd.specs.Svd3x3 as svd3
-use Rattle.kinds.specs.Work.{first_of, padded}
-use Rattle.kinds.specs.declared.table.Kernel.{Kernel}
-use Rattle.kinds.specs.declared.table.Kernel.TheVariants.{Eigen2x2, Eigen3x3, Svd2x2, Svd3x3, Factor2x2, Factor3x3, Solve2x2, Solve3x3, Unknown}
-use Rattle.kinds.specs.declared.work.Asked.{Asked}
+use Rattle.kinds.specs.Work.{Asked, first_of, padded}
 use Rattle.promises.specs.Scope.{number_length, request_length, answer_length, three_begin, used_nine, used_three, last_way, kernel_numbered, kind_in, way_in}
 use Rattle.promises.specs.Scope.{numbers_in, given, scaled_in, power_in, divided_in}
+use Rattle.kinds.specs.Table.{Kernel, Eigen2x2, Eigen3x3, Svd2x2, Svd3x3, Factor2x2, Factor3x3, Solve2x2, Solve3x3, Unknown}
 
 -- ---- 3: the kind is none of 1 to 8
 

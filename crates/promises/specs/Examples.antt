@@ -7,8 +7,8 @@ use Rattle.std.specs.Float.Ieee.{of_bits, to_bits}
 use Rattle.float.specs.Root.{root_bits_of}
 use Rattle.cholesky.specs.Factor.{FactorAnswer, factor2_of, factor3_of}
 use Rattle.kinds.specs.Ways.{work_of}
-use Rattle.kinds.specs.declared.work.Worked.{Worked}
 use Rattle.record.specs.Answer.{Step, record_step_of}
+use Rattle.kinds.specs.Work.{WorkedAnswer}
 
 -- ---- a row
 
@@ -53,7 +53,7 @@ patterns = map (to_bits binary64)
 abbrev pub number : ℕ → Shown
 number x = numbers 0 0 0 (x ∷ []) [] []
 
-abbrev pub of_kind : Worked → Shown
+abbrev pub of_kind : WorkedAnswer → Shown
 of_kind w = numbers w.code w.count w.settled (patterns w.values) (patterns w.left) (patterns w.right)
 
 abbrev pub of_factor : FactorAnswer → Shown

@@ -6,11 +6,9 @@ use Rattle.eigen.specs.Counted as eigen
 use Rattle.svd.specs.Polar.{blind_sides}
 use Rattle.svd.specs.Svd2x2.{sides2_of}
 use Rattle.svd.specs.Counted as svd
-use Rattle.kinds.specs.Work.{first_of}
-use Rattle.kinds.specs.declared.table.Kernel.{Kernel}
-use Rattle.kinds.specs.declared.table.Kernel.TheVariants.{Eigen2x2, Eigen3x3, Svd2x2, Svd3x3, Factor2x2, Factor3x3, Solve2x2, Solve3x3, Unknown}
-use Rattle.kinds.specs.declared.work.Asked.{Asked}
+use Rattle.kinds.specs.Work.{Asked, first_of}
 use Rattle.promises.specs.Scope.{kernel_numbered, kind_in, worked_in}
+use Rattle.kinds.specs.Table.{Kernel, Eigen2x2, Eigen3x3, Svd2x2, Svd3x3, Factor2x2, Factor3x3, Solve2x2, Solve3x3, Unknown}
 
 -- Of a 2x2 that is turned: its rotation is not blind. Of a 3x3: its last matrix is settled, and none of the rotations made is blind. The others make none.
 abbrev pub MarkOwed : Format → Kernel → Asked → Type 0

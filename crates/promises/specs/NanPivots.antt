@@ -4,12 +4,10 @@ use Rattle.std.specs.Float.{Format}
 use Rattle.float.specs.Sign.{all_finite}
 use Rattle.cholesky.specs.NanPivot.{NanThird}
 use Rattle.cholesky.specs.Solve.{solution2_of, solution3_of}
-use Rattle.kinds.specs.Work.{first_of}
-use Rattle.kinds.specs.declared.table.Kernel.{Kernel}
-use Rattle.kinds.specs.declared.table.Kernel.TheVariants.{Eigen2x2, Eigen3x3, Svd2x2, Svd3x3, Factor2x2, Factor3x3, Solve2x2, Solve3x3, Unknown}
-use Rattle.kinds.specs.declared.work.Asked.{Asked}
+use Rattle.kinds.specs.Work.{Asked, first_of}
 use Rattle.promises.specs.Scope.{kind_in, numbers_in}
 use Rattle.promises.specs.Conditions.{factor_made2, factor_made3}
+use Rattle.kinds.specs.Table.{Kernel, Eigen2x2, Eigen3x3, Svd2x2, Svd3x3, Factor2x2, Factor3x3, Solve2x2, Solve3x3, Unknown}
 
 -- the kinds of the 3x3 factor, and the six numbers of its matrix
 abbrev pub HasFactor3x3 : ℕ → Type 0

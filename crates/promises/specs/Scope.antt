@@ -7,9 +7,8 @@ use Rattle.std.specs.Float.Ieee.{of_bits}
 use Rattle.float.specs.Choice.{pick}
 use Rattle.float.specs.Scaled.{times_power, power_of}
 use Rattle.matrix.specs.Places.{at, tabulate}
-use Rattle.kinds.specs.declared.table.Kernel.{Kernel}
-use Rattle.kinds.specs.declared.table.Kernel.TheVariants.{Eigen2x2, Eigen3x3, Svd2x2, Svd3x3, Factor2x2, Factor3x3, Solve2x2, Solve3x3, Unknown}
-use Rattle.kinds.specs.declared.work.Asked.{Asked}
+use Rattle.kinds.specs.Table.{Kernel, Eigen2x2, Eigen3x3, Svd2x2, Svd3x3, Factor2x2, Factor3x3, Solve2x2, Solve3x3, Unknown}
+use Rattle.kinds.specs.Work.{Asked}
 
 -- ---- bytes
 

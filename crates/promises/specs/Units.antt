@@ -7,9 +7,8 @@ use Rattle.float.specs.Constants.{zero_f, smallest_f}
 use Rattle.float.specs.Sign.{magnitude_of}
 use Rattle.float.specs.Scaled.{times_power, shifted, zero_or_normal, largest_magnitude}
 use Rattle.matrix.specs.Places.{at, Fit}
-use Rattle.kinds.specs.Work.{plain_of}
+use Rattle.kinds.specs.Work.{WorkedAnswer, plain_of}
 use Rattle.kinds.specs.Ways.{multiplied_back}
-use Rattle.kinds.specs.declared.work.Worked.{Worked}
 use Rattle.record.specs.Request.{judged_of}
 use Rattle.record.specs.Answer.{answered_of}
 use Rattle.promises.specs.Scope.{number_length, request_length, used_nine, kernel_numbered, kind_in, numbers_in, scaled_in, power_in, divided_in}
@@ -28,8 +27,8 @@ pub record OtherUnits (f : Format) (j : ℤ) (s t : List ℕ) : Type 0 where
 -- ---- of any two such requests, with the answers x and y: both are one answer, whose values are multiplied back by 2 ^ k in x and by 2 ^ (k + j) in y. With
 -- code 0 it is the kernel's answer to the divided matrix; where it is refused, both are what it is
 
-pub record SameWork (f : Format) (j : ℤ) (s : List ℕ) (x y : Worked) : Type 0 where
-  pub work : Worked
+pub record SameWork (f : Format) (j : ℤ) (s : List ℕ) (x y : WorkedAnswer) : Type 0 where
+  pub work : WorkedAnswer
   pub this : x ≡ multiplied_back f (power_in f s) work
   pub that : y ≡ multiplied_back f (power_in f s +ℤ j) work
   pub refused : (work.code ≡ 0 → ⊥) → (x ≡ work) × (y ≡ work)

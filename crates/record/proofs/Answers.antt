@@ -3,11 +3,10 @@ use Rattle.float.proofs.Words.{◌≡◌, refl, sym, ap, ◌∙◌, true, List, 
 use Rattle.float.proofs.Words.{take, drop, replicate, length-append, length-take, length-drop, replicate-append-replicate, length-take-le, get_or-append-add}
 use Rattle.float.proofs.Words.{drop-append-add, drop-drop, Format, eq-eqb, ne_eqb}
 use Rattle.float.proofs.Choice.{chosen, by_eqb, whether}
-use Rattle.kinds.specs.Work.{refused_kind, used_finite}
+use Rattle.kinds.specs.Work.{WorkedAnswer, refused_kind, used_finite}
 use Rattle.kinds.specs.Ways.{work_of}
 use Rattle.kinds.proofs.Works.{Sized, Clear}
 use Rattle.kinds.proofs.BothWays.{work_sized, work_clear, work_five}
-use Rattle.kinds.specs.declared.work.Worked.{Worked}
 use Rattle.wire.specs.Bytes.{number_bytes, number_bytes_of}
 use Rattle.wire.proofs.Numbers.{numbers_length, zeros_bytes}
 use Rattle.record.specs.Layout.{event_bytes, numbers_at, request_size, code_at, mark_at, answer_size}
@@ -52,7 +51,7 @@ event_length f s h = length-take-le event_bytes s (omega arith)
 
 -- every answer is a record over one event's bytes
 each_record : (P : Step → Type 0) (f : Format) (s a : List ℕ) → length a ≡ answer_size f
-    → ((event : List ℕ) (kind : ℕ) (w : Worked) → length event ≡ event_bytes → Sized w → Clear f w
+    → ((event : List ℕ) (kind : ℕ) (w : WorkedAnswer) → length event ≡ event_bytes → Sized w → Clear f w
     → P (record { code = w.code; answer = record_of f event kind w }))
     → P (record_step_of f s a)
 unfolding record_step_of
@@ -63,7 +62,8 @@ each_record P f s a h k =
 
 -- ---- the size
 
-record_size : (f : Format) (event : List ℕ) (kind : ℕ) (w : Worked) → length event ≡ event_bytes → Sized w → length (record_of f event kind w) ≡ answer_size f
+record_size : (f : Format) (event : List ℕ) (kind : ℕ) (w : WorkedAnswer) → length event ≡ event_bytes → Sized w
+    → length (record_of f event kind w) ≡ answer_size f
 unfolding record_of
 record_size f event kind w h n = simp (length-append, numbers_length, h, n.0, n.1, n.2) (omega arith)
 
@@ -73,7 +73,7 @@ answer_size_lem f s a h = each_record (λ (t : Step). length t.answer ≡ answer
 -- ---- the code that is handed back stands in its byte, unless it is 2 and nothing is written
 
 -- the bytes behind the event's number
-pub head_byte : (f : Format) (event : List ℕ) (kind : ℕ) (w : Worked) (i : ℕ) → length event ≡ event_bytes
+pub head_byte : (f : Format) (event : List ℕ) (kind : ℕ) (w : WorkedAnswer) (i : ℕ) → length event ≡ event_bytes
     → let numbers = number_bytes_of f w.values ++ (number_bytes_of f w.left ++ number_bytes_of f w.right) in
     get_or (record_of f event kind w) (event_bytes + i) 0 ≡ get_or (kind ∷ w.code ∷ w.count ∷ w.settled ∷ numbers) i 0
 unfolding record_of
@@ -109,7 +109,7 @@ pub refused_unmarked : (f : Format) (s a : List ℕ) → length a ≡ answer_siz
     → drop mark_at (record_step_of f s a).answer ≡ 0 ∷ replicate (answer_size f - numbers_at) 0
 refused_unmarked f s a h =
     each_record (λ (t : Step). (t.code ≡ 0 → ⊥) → drop mark_at t.answer ≡ 0 ∷ replicate (answer_size f - numbers_at) 0) f s a h
-    (λ event kind w e _ c k. ap (λ (w : Worked). drop mark_at (record_of f event kind w)) (c k) ∙ record_clear f event kind w.code w.count e)
+    (λ event kind w e _ c k. ap (λ (w : WorkedAnswer). drop mark_at (record_of f event kind w)) (c k) ∙ record_clear f event kind w.code w.count e)
 
 pub refused_clear : (f : Format) (s a : List ℕ) → length a ≡ answer_size f → ((record_step_of f s a).code ≡ 0 → ⊥)
     → drop numbers_at (record_step_of f s a).answer ≡ replicate (answer_size f - numbers_at) 0

@@ -2,14 +2,13 @@
 use Rattle.std.specs.Prelude.{◌≡◌, List, ◌∷◌, ◌++◌, ℕ, eqb, length, take, replicate}
 use Rattle.std.specs.Float.{Format}
 use Rattle.float.specs.Choice.{pick}
-use Rattle.kinds.specs.Work.{refused_kind}
-use Rattle.kinds.specs.declared.work.Worked.{Worked}
+use Rattle.kinds.specs.Work.{WorkedAnswer, refused_kind}
 use Rattle.wire.specs.Bytes.{number_bytes_of}
 use Rattle.record.specs.Layout.{event_bytes, request_size, answer_size}
 use Rattle.record.specs.Request.{kind_of, judged_of}
 
 -- event number, kind, code, count, mark, and the numbers: good answers and refused ones alike
-unfoldable pub record_of : Format → List ℕ → ℕ → Worked → List ℕ
+unfoldable pub record_of : Format → List ℕ → ℕ → WorkedAnswer → List ℕ
 record_of f event kind w =
     event ++ (kind ∷ w.code ∷ w.count ∷ w.settled ∷ number_bytes_of f w.values ++ (number_bytes_of f w.left ++ number_bytes_of f w.right))
 

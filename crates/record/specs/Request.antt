@@ -2,12 +2,9 @@
 use Rattle.std.specs.Prelude.{Bool, ◌&&◌, List, ℕ, eqb, length, get_or}
 use Rattle.std.specs.Float.{Format}
 use Rattle.float.specs.Choice.{pick}
-use Rattle.kinds.specs.Table.{kind_numbered, known_kind, known_way}
-use Rattle.kinds.specs.Work.{refused_kind, used_finite}
+use Rattle.kinds.specs.Table.{Kind, kind_numbered, known_kind, known_way}
+use Rattle.kinds.specs.Work.{Asked, WorkedAnswer, refused_kind, used_finite}
 use Rattle.kinds.specs.Ways.{work_of}
-use Rattle.kinds.specs.declared.table.Kind.{Kind}
-use Rattle.kinds.specs.declared.work.Asked.{Asked}
-use Rattle.kinds.specs.declared.work.Worked.{Worked}
 use Rattle.wire.specs.Bytes.{place_of, numbers_from, zero_from}
 use Rattle.record.specs.Layout.{kind_at, way_at, reserved_at, nine_at, three_at, request_size}
 
@@ -44,6 +41,6 @@ sized_form_of f s = pick (eqb (length s) (request_size f)) (form_of f s) 1
 
 -- ---- the test of 5, and the kernel's answer if the tests let it be asked
 
-unfoldable pub judged_of : Format → List ℕ → Worked
+unfoldable pub judged_of : Format → List ℕ → WorkedAnswer
 judged_of f s =
     pick (eqb (form_of f s) 0) (pick (used_finite (asked_of f s)) (work_of f (asked_of f s)) (refused_kind f 5 0)) (refused_kind f (form_of f s) 0)

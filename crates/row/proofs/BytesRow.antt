@@ -5,15 +5,18 @@ use Rattle.float.proofs.Words.{length, length-append, sets, Format, binary32, bi
 use mathlib.Core.List.{map-append}
 use native.Mathlib.Nat.{div-add-mod, mul-div_right, mul-mod_right}
 use contract.Lifetimes.{Lfts}
+use Rattle.std.specs.Prelude.{Result}
 use Rattle.float.specs.Width.{F}
 use Rattle.float.specs.Choice.{pick}
 use Rattle.float.proofs.Choice.{by_test, by_eqb, either, whether}
 use Rattle.float.proofs.Finite.{both_true}
+use Rattle.matrix.specs.Codes.{code_of}
 use Rattle.matrix.specs.Owed.{AllFull}
+use Rattle.matrix.specs.declared.codes.Refusal.{Refusal}
 use Rattle.matrix.specs.Rows.{on, Gives}
-use Rattle.matrix.specs.declared.square.Mat3.{Mat3}
+use Rattle.matrix.specs.Square.{Mat3}
 use Rattle.svd.specs.Owed.{svd3_parts}
-use Rattle.svd.specs.declared.svd3x3.Svd3.{Svd3}
+use Rattle.svd.specs.Svd3x3.{SvdAnswer}
 use Rattle.wire.specs.Bytes.{number_bytes_of, part, placed_of}
 use Rattle.wire.proofs.Parts.{part_within, part-behind, placed_stored}
 use Rattle.wire.proofs.Numbers.{numbers_length, numbers_behind}
@@ -27,7 +30,7 @@ use Rattle.row.proofs.bytes.zanikory_svd_3x3_row.Reads as svd-3x3-row
 -- ---- an answer
 
 -- each field has its numbers
-pub record FullSvd (r : Svd3) : Type 0 where
+pub record FullSvd (r : SvdAnswer) : Type 0 where
   pub values : length r.values ≡ 3
   pub u : length r.u.«data» ≡ 9
   pub v : length r.v.«data» ≡ 9
@@ -36,7 +39,7 @@ pub record FullSvd (r : Svd3) : Type 0 where
 pub single_full : (f : Format) (m : Mat3) → length m.«data» ≡ 9 → FullSvd (single_of f m)
 single_full f m n = let p = single_vouched f m n in record { values = p.0; u = p.2.0; v = p.2.2.0; worked = p.2.2.2.0 }
 
-pub svd_bytes_length : (f : Format) (r : Svd3) → FullSvd r → length (svd_bytes_of f r) ≡ svd_size f
+pub svd_bytes_length : (f : Format) (r : SvdAnswer) → FullSvd r → length (svd_bytes_of f r) ≡ svd_size f
 unfolding svd_bytes_of
 svd_bytes_length f r n = simp (length-append, numbers_length, n.values, n.u, n.v, n.worked) (omega arith)
 
@@ -44,7 +47,7 @@ pub single_bytes_length : (f : Format) (m : Mat3) → length m.«data» ≡ 9 �
 single_bytes_length f m n = svd_bytes_length f (single_of f m) (single_full f m n)
 
 -- the head and the four groups of numbers, written one after the other, are the whole
-pub svd_of_parts : (f : Format) (r : Svd3) (at : ℕ) (l l₁ l₂ l₃ l₄ l₅ : List ℕ) → FullSvd r → at + svd_size f ≤ length l
+pub svd_of_parts : (f : Format) (r : SvdAnswer) (at : ℕ) (l l₁ l₂ l₃ l₄ l₅ : List ℕ) → FullSvd r → at + svd_size f ≤ length l
     → l₁ ≡ sets l at (svd_head_of r)
     → l₂ ≡ placed_of (at + values_at) (number_bytes_of f r.values) l₁
     → l₃ ≡ placed_of (at + u_at f) (number_bytes_of f r.u.«data») l₂
@@ -67,7 +70,7 @@ unfolding mats_of
 mats_length f zero s = refl
 mats_length f (suc n) s = rw (length-append, mats_length f n s) (add-one n)
 
-row_bytes_append : (f : Format) (rs ts : List Svd3) → row_bytes_of f (rs ++ ts) ≡ row_bytes_of f rs ++ row_bytes_of f ts
+row_bytes_append : (f : Format) (rs ts : List SvdAnswer) → row_bytes_of f (rs ++ ts) ≡ row_bytes_of f rs ++ row_bytes_of f ts
 unfolding row_bytes_of
 row_bytes_append f [] ts = refl
 row_bytes_append f (r ∷ rs) ts = rw (row_bytes_append f rs ts, append_assoc)
@@ -153,7 +156,7 @@ bytes_codes f s out =
     (λ u. inl (u, refl))
 
 -- of bytes that are whole places: the same code, with 0 the bytes of the same answers, and else those that were found
-pub bytes_is_row : (f : Format) (s out : List ℕ) (ys : List Svd3) → length s % mat_size f ≡ 0 → length out ≡ svd_size f * length ys
+pub bytes_is_row : (f : Format) (s out : List ℕ) (ys : List SvdAnswer) → length s % mat_size f ≡ 0 → length out ≡ svd_size f * length ys
     → let row = svd_row_of f (mats_of f (length s / mat_size f) s) ys in
     ((svd_row_bytes_of f s out).code ≡ row.code)
     × (row.code ≡ 0 → (svd_row_bytes_of f s out).value ≡ row_bytes_of f row.value)
@@ -174,14 +177,16 @@ bytes_place f s out i e h = rw (eq-eqb _ 0 e) (filled-place f (length s / mat_si
 
 -- so its numbers are finite, refused or not
 pub bytes_vouched : (f : Format) (s out : List ℕ) (i : ℕ) → (svd_row_bytes_of f s out).code ≡ 0 → i < length s / mat_size f
-    → (r : Svd3) × (part (svd_size f * i) (svd_size f) (svd_row_bytes_of f s out).value ≡ svd_bytes_of f r) × AllFull (svd3_parts r)
+    → (r : SvdAnswer) × (part (svd_size f * i) (svd_size f) (svd_row_bytes_of f s out).value ≡ svd_bytes_of f r) × AllFull (svd3_parts r)
 bytes_vouched f s out i e h = (single_of f (mat_at f i s), bytes_place f s out i e h, single_vouched f (mat_at f i s) refl)
 
 -- ---- the same of any answer within the promise of the C entry
 
-pub bytes_codes_call : (κs : Lfts 2) (a : _) (r : ℕ) (x : _) → svd-3x3-row.Post κs a r x → Gives (bytes_rows F a.0.now a.1.0.now) r
+pub bytes_codes_call : (κs : Lfts 2) (a : _) (r : Result (Unit {0}) Refusal) (x : _) → svd-3x3-row.Post κs a r x
+    → Gives (bytes_rows F a.0.now a.1.0.now) (code_of r)
 bytes_codes_call κs a r x p = rw p.0 (bytes_codes F a.0.now a.1.0.now)
 
-pub bytes_place_call : (κs : Lfts 2) (a : _) (r : ℕ) (x : _) → svd-3x3-row.Post κs a r x → (i : ℕ) → r ≡ 0 → i < length a.0.now / mat_size F
+pub bytes_place_call : (κs : Lfts 2) (a : _) (r : Result (Unit {0}) Refusal) (x : _) → svd-3x3-row.Post κs a r x
+    → (i : ℕ) → code_of r ≡ 0 → i < length a.0.now / mat_size F
     → part (svd_size F * i) (svd_size F) x.1.0.now ≡ svd_bytes_of F (single_of F (mat_at F i a.0.now))
 bytes_place_call κs a r x p i e h = rw p.1 (bytes_place F a.0.now a.1.0.now i (sym p.0 ∙ e) h)

@@ -3,12 +3,16 @@ use Rattle.float.proofs.Words.{◌≡◌, refl, not, List, [], ◌∷◌, ℕ, �
 use Rattle.float.proofs.Words.{not-false}
 use borrow.Author.Tests.{leb-false}
 use contract.Lifetimes.{Lfts}
+use Rattle.std.specs.Prelude.{Result}
+use Rattle.std.proofs.lemmas.List.{length-map}
 use Rattle.float.specs.Width.{F}
+use Rattle.matrix.specs.Codes.{code_of}
 use Rattle.matrix.specs.Rows.{on, Gives}
+use Rattle.matrix.specs.declared.codes.Refusal.{Refusal}
 use Rattle.matrix.proofs.Rows.{Decides, last_row, by_not, taken_row, passed_row}
-use Rattle.matrix.specs.declared.square.Mat3.{Mat3}
-use Rattle.svd.specs.declared.svd3x3.Svd3.{Svd3}
-use Rattle.row.specs.Row.{most_places, row_code_of, svd_row_of}
+use Rattle.matrix.specs.Square.{Mat3}
+use Rattle.svd.specs.Svd3x3.{SvdAnswer}
+use Rattle.row.specs.Row.{most_places, row_code_of, svd_row_of, answer_in, answers_in}
 use Rattle.row.specs.Codes.{length_rows}
 use Rattle.row.proofs.rows.svd_row.Reads as svd-row
 
@@ -21,13 +25,14 @@ length-codes n m =
     last_row (eqb n m) (on 10 (n ≡ m → ⊥)) (on 11 (64 < n) ∷ []) _ (by_not (eqb n m) (n ≡ m) (eqb-true n m) (eq-eqb n m))
     (last_row (leb n most_places) (on 11 (64 < n)) [] 0 (by_most n most_places) refl)
 
-pub row-codes : (f : Format) (ms : List Mat3) (found : List Svd3) → Gives (length_rows (length ms) (length found)) (svd_row_of f ms found).code
+pub row-codes : (f : Format) (ms : List Mat3) (found : List SvdAnswer) → Gives (length_rows (length ms) (length found)) (svd_row_of f ms found).code
 unfolding svd_row_of
 row-codes f ms found = length-codes (length ms) (length found)
 
 -- so of the code that a call gives
-pub row_codes_call : (κs : Lfts 2) (a : _) (r : ℕ) (s : _) → svd-row.Post κs a r s → Gives (length_rows (length a.0.now) (length a.1.0.now)) r
-row_codes_call κs a r s p = rw p.0 (row-codes F a.0.now a.1.0.now)
+pub row_codes_call : (κs : Lfts 2) (a : _) (r : Result (Unit {0}) Refusal) (s : _) → svd-row.Post κs a r s
+    → Gives (length_rows (length a.0.now) (length a.1.0.now)) (code_of r)
+row_codes_call κs a r s p = rw (p.0, ← length-map a.1.0.now answer_in) (row-codes F a.0.now (answers_in a.1.0.now))
 
 -- ---- what a code tells, of any number that the rows give
 

@@ -1,13 +1,13 @@
 -- A row that is filled from the front: the first i places hold what a function gives for the matrices there, and the others what was found. Laws over any
--- function, and what they make of the gate's number of places.
-use Rattle.float.proofs.Words.{◌≡◌, refl, sym, ap, ◌∙◌, List, [], ◌∷◌, ◌++◌, append-nil, map, ℕ, zero, suc, ◌≤◌, ◌<◌, min, arith, eqb, length, get_or, set}
-use Rattle.float.proofs.Words.{take, drop, length-append, length-take, length-drop, take_all, drop-length, le_refl, leb, leb-true, eqb-true, Format}
+-- function, and what they make of a row that is not refused.
+use Rattle.float.proofs.Words.{◌≡◌, refl, sym, ap, ◌∙◌, List, [], ◌∷◌, ◌++◌, append-nil, map, ℕ, zero, suc, ◌≤◌, ◌<◌, min, arith, length, get_or, set}
+use Rattle.float.proofs.Words.{take, drop, length-append, length-take, length-drop, take_all, drop-length, le_refl, leb, leb-true, eq-eqb, Format}
 use lib.ListN.{length-map, drop_of_length-le as drop_all}
 use Rattle.float.specs.Width.{F}
-use Rattle.float.proofs.Choice.{by_test, by_eqb, both_chosen, either}
-use Rattle.matrix.specs.declared.square.Mat3.{Mat3}
-use Rattle.svd.specs.declared.svd3x3.Svd3.{Svd3}
-use Rattle.row.specs.Row.{most_places, row_code_of, single_of, gate_of, svd_row_of, room_places, fill_of}
+use Rattle.float.proofs.Choice.{by_test, by_eqb, either}
+use Rattle.matrix.specs.Square.{Mat3}
+use Rattle.svd.specs.Svd3x3.{SvdAnswer}
+use Rattle.row.specs.Row.{most_places, row_code_of, single_of, svd_row_of, room_places, fill_of}
 
 module _ {A B : Type 0} (g : A → B) where
   abbrev pub filled_to : ℕ → List A → List B → List B
@@ -40,20 +40,11 @@ code_zero n m =
     (λ e. by_test Zero (leb n most_places) 0 11 (λ t _. (e, leb-true n most_places t)) (λ _ k. absurd (omega (arith, k))))
     (λ _ k. absurd (omega (arith, k)))
 
--- the places to fill are there
-pub stop_within : (n m : ℕ) → ((gate_of n m).stop ≤ n) × ((gate_of n m).stop ≤ m)
-unfolding gate_of
-stop_within n m =
-    by_eqb (λ (k : ℕ). (k ≤ n) × (k ≤ m)) (row_code_of n m) 0 n 0 (λ e. (le_refl n, rw (code_zero n m e).0 (le_refl m))) (λ _. (omega arith, omega arith))
-
--- once they are filled, the row is that of the definition
-pub filled_row : (f : Format) (ms : List Mat3) (found : List Svd3)
-    → filled_to (single_of f) (gate_of (length ms) (length found)).stop ms found ≡ (svd_row_of f ms found).value
-unfolding gate_of svd_row_of
-filled_row f ms found =
-    both_chosen (λ (k : ℕ) (l : List Svd3). filled_to (single_of f) k ms found ≡ l) (eqb (row_code_of (length ms) (length found)) 0) (length ms) 0 _ found
-    (λ t. filled_all (single_of f) ms found (code_zero (length ms) (length found) (eqb-true _ 0 t)).0)
-    (λ _. refl)
+-- once they are all filled, the row is that of the definition
+pub filled_row : (f : Format) (ms : List Mat3) (found : List SvdAnswer) → row_code_of (length ms) (length found) ≡ 0
+    → filled_to (single_of f) (length ms) ms found ≡ (svd_row_of f ms found).value
+unfolding svd_row_of
+filled_row f ms found e = rw (eq-eqb _ 0 e) (filled_all (single_of f) ms found (code_zero (length ms) (length found) e).0)
 
 -- ---- the front of a row, where more may be asked for than there is
 
@@ -70,7 +61,7 @@ drop_within n xs =
     (λ l. drop_all xs {i = min n (length xs)} (omega arith) ∙ sym (drop_all xs l))
 
 -- so the call on copies may count a number above the arrays' length as this length
-pub same_fronts : (ms : List Mat3) (n : ℕ) (ys : List Svd3) (m : ℕ) → length ms ≡ room_places → length ys ≡ room_places
+pub same_fronts : (ms : List Mat3) (n : ℕ) (ys : List SvdAnswer) (m : ℕ) → length ms ≡ room_places → length ys ≡ room_places
     → fill_of F ms (min n room_places) ys (min m room_places) ≡ fill_of F ms n ys m
 unfolding fill_of
 same_fronts ms n ys m h k = rw (← h, take_within n ms, h, ← k, take_within m ys, drop_within m ys)

@@ -3,4 +3,5 @@ pub mod Codes
 pub mod Places
 pub mod Vouched
 pub mod BytesRow
+pub mod Lent
 pub mod Unique

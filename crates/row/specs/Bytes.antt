@@ -2,11 +2,10 @@
 use Rattle.std.specs.Prelude.{◌&&◌, List, [], ◌∷◌, ◌++◌, ℕ, zero, suc, ◌*◌, ◌/◌, ◌%◌, eqb, length, replicate}
 use Rattle.std.specs.Float.{Format}
 use Rattle.float.specs.Choice.{pick}
-use Rattle.matrix.specs.Square.{mat3}
+use Rattle.matrix.specs.Square.{mat3, Mat3}
 use Rattle.matrix.specs.Answer.{Answer, when_done}
-use Rattle.matrix.specs.declared.square.Mat3.{Mat3}
 use Rattle.jacobi.specs.Blind.{mark_of}
-use Rattle.svd.specs.declared.svd3x3.Svd3.{Svd3}
+use Rattle.svd.specs.Svd3x3.{SvdAnswer}
 use Rattle.wire.specs.Bytes.{place_of, numbers_from, number_bytes_of}
 use Rattle.row.specs.Row.{row_code_of, singles_of}
 
@@ -42,17 +41,17 @@ worked_at f = place_of f values_at 21
 abbrev pub svd_size : Format → ℕ
 svd_size f = place_of f values_at 30
 
-abbrev pub svd_head_of : Svd3 → List ℕ
+abbrev pub svd_head_of : SvdAnswer → List ℕ
 svd_head_of r = r.code ∷ r.made.count ∷ mark_of r.settled ∷ replicate 5 0
 
-unfoldable pub svd_bytes_of : Format → Svd3 → List ℕ
+unfoldable pub svd_bytes_of : Format → SvdAnswer → List ℕ
 svd_bytes_of f r =
     svd_head_of r
     ++ (number_bytes_of f r.values
     ++ (number_bytes_of f r.u.«data» ++ (number_bytes_of f r.v.«data» ++ number_bytes_of f r.worked.«data»)))
 
 -- one after the other
-unfoldable pub row_bytes_of : Format → List Svd3 → List ℕ
+unfoldable pub row_bytes_of : Format → List SvdAnswer → List ℕ
 row_bytes_of f [] = []
 row_bytes_of f (r ∷ rs) = svd_bytes_of f r ++ row_bytes_of f rs
 

@@ -3,17 +3,18 @@ ghost use Rattle.std.specs.Prelude.{◌≡◌, ◌++◌, ◌+◌, ◌*◌, ◌�
 ghost use Rattle.std.proofs.lemmas.List.Edits.{sets};
 ghost use Rattle.float.specs.Width.{F};
 ghost use Rattle.matrix.specs.Answer.{Outcome};
+ghost use Rattle.matrix.specs.Codes.{code_of};
 ghost use Rattle.matrix.specs.Square.{mat3};
 ghost use Rattle.wire.specs.Bytes.{place_of, number_at, numbers_from, number_bytes_of, placed_of};
-ghost use Rattle.row.specs.Row.{single_of};
+ghost use Rattle.row.specs.Row.{single_of, answer_in};
 ghost use Rattle.row.specs.Bytes.{mat_size, mat_at, values_at, svd_size, svd_bytes_of, bytes_code_of, svd_row_bytes_of};
 
-use crate::rows::row_gate;
-use float::width::{NUMBER_SIZE, Real};
-use jacobi::blind::mark_byte;
-use matrix::codes::{DONE, ROWS_UNEQUAL};
+use crate::rows::{SvdPlace, row_gate};
+use float::width::NUMBER_SIZE;
+use matrix::codes::Refusal;
 use matrix::square::Mat3;
-use svd::svd3x3::{Svd3, svd};
+use std::array;
+use svd::svd3x3::svd;
 use wire::bytes::{number_at, put_numbers};
 
 pub const MAT_SIZE: usize = 9 * NUMBER_SIZE;
@@ -29,102 +30,48 @@ const WORKED_AT: usize = V_AT + 9 * NUMBER_SIZE;
 // The size of an answer.
 pub const SVD_SIZE: usize = WORKED_AT + 9 * NUMBER_SIZE;
 
-// Number i of the nine after byte `at`.
-fn slot(s: &[u8], at: usize, i: usize) -> Real
-    requires { (at + mat_size F ≤ length s.now) × (i < 9) }
-    ensures { result ≡ number_at F (place_of F at i) s.now }
-{
-    number_at(s, at + NUMBER_SIZE * i)
-}
-
 // The matrix that begins at byte `at`.
 fn mat3_at(s: &[u8], at: usize) -> Mat3
     requires { at + mat_size F ≤ length s.now }
     ensures { result ≡ mat3 (numbers_from F 9 at s.now) }
 {
     Mat3 {
-        data: [
-            slot(s, at, 0),
-            slot(s, at, 1),
-            slot(s, at, 2),
-            slot(s, at, 3),
-            slot(s, at, 4),
-            slot(s, at, 5),
-            slot(s, at, 6),
-            slot(s, at, 7),
-            slot(s, at, 8),
-        ],
+        data: array::from_fn(|i| number_at(s, at + NUMBER_SIZE * i)),
     }
 }
 
-// Code, count and mark, and zeros up to the numbers.
-fn put_head(out: &mut [u8], at: usize, head: [u8; VALUES_AT])
-    requires { at + values_at ≤ length out.old }
-    ensures { out.new ≡ sets out.old at head }
-{
-    let mut i = 0usize;
-    while i < VALUES_AT {
-        out[at + i] = head[i];
-        i += 1usize;
-    }
-}
-
-// The numbers of a matrix from `at` on; without room for all of them nothing is written.
-fn put_mat3(out: &mut [u8], at: usize, m: Mat3)
-    ensures { out.new ≡ placed_of at (number_bytes_of F m.«data») out.old }
-{
-    let d = m.data;
-    put_numbers(out, at, &d);
-}
-
-// The answer's bytes from `at` on, where there is room for all of them.
-fn put_parts(out: &mut [u8], at: usize, r: Svd3)
+// The answer's bytes from `at` on, where there is room for all of them: code, count and mark, zeros up to the numbers, and the numbers.
+fn put_parts(out: &mut [u8], at: usize, r: SvdPlace)
     requires { at + svd_size F ≤ length out.old }
-    ensures { out.new ≡ placed_of at (svd_bytes_of F r) out.old }
+    ensures { out.new ≡ placed_of at (svd_bytes_of F (answer_in r)) out.old }
 {
-    let made = r.made;
-    put_head(
-        out,
-        at,
-        [r.code, made.count, mark_byte(r.settled), 0, 0, 0, 0, 0],
-    );
-    let values = r.values;
-    let u = r.u;
-    let v = r.v;
-    let worked = r.worked;
-    put_numbers(out, at + VALUES_AT, &values);
-    put_mat3(out, at + U_AT, u);
-    put_mat3(out, at + V_AT, v);
-    put_mat3(out, at + WORKED_AT, worked);
+    let head = [r.code, r.made.count, u8::from(r.settled), 0, 0, 0, 0, 0];
+    out[at..at + VALUES_AT].copy_from_slice(&head);
+    put_numbers(out, at + VALUES_AT, &r.values);
+    put_numbers(out, at + U_AT, &r.u.data);
+    put_numbers(out, at + V_AT, &r.v.data);
+    put_numbers(out, at + WORKED_AT, &r.worked.data);
 }
 
 // The answer's bytes from `at` on; without room for all of them nothing is written.
-pub fn put_svd(out: &mut [u8], at: usize, r: Svd3)
-    ensures { out.new ≡ placed_of at (svd_bytes_of F r) out.old }
+pub fn put_svd(out: &mut [u8], at: usize, r: SvdPlace)
+    ensures { out.new ≡ placed_of at (svd_bytes_of F (answer_in r)) out.old }
 {
     // a difference, since the sum of `at` and the answer's size could be past the largest usize
-    if at > out.len() {
-        return;
+    if SVD_SIZE <= out.len().saturating_sub(at) {
+        put_parts(out, at, r);
     }
-    if SVD_SIZE > out.len() - at {
-        return;
-    }
-    put_parts(out, at, r);
 }
 
 // By the lengths alone. Bytes that are no whole places are rows of unequal length.
-#[tactic(auto, unfolding(crate::specs::Bytes::bytes_code_of, crate::specs::Row::gate_of))]
-fn bytes_code(mats: usize, answers: usize) -> u8
-    ensures { result ≡ bytes_code_of F mats answers }
+#[tactic(auto, unfolding(crate::specs::Bytes::bytes_code_of))]
+fn bytes_gate(mats: usize, answers: usize) -> Result<(), Refusal>
+    ensures { code_of result ≡ bytes_code_of F mats answers }
 {
-    if mats % MAT_SIZE != 0 {
-        return ROWS_UNEQUAL;
+    if mats % MAT_SIZE != 0 || answers % SVD_SIZE != 0 {
+        return Err(Refusal::RowsUnequal);
     }
-    if answers % SVD_SIZE != 0 {
-        return ROWS_UNEQUAL;
-    }
-    let g = row_gate(mats / MAT_SIZE, answers / SVD_SIZE);
-    g.code
+    row_gate(mats / MAT_SIZE, answers / SVD_SIZE)
 }
 
 // Answers the matrix in place i.
@@ -134,22 +81,17 @@ fn answer_place(mats: &[u8], answers: &mut [u8], i: usize)
         ≡ take (svd_size F * i) answers.old ++ svd_bytes_of F (single_of F (mat_at F i mats.now)) }
 {
     let r = svd(mat3_at(mats, MAT_SIZE * i));
-    put_svd(answers, SVD_SIZE * i, r);
+    put_svd(answers, SVD_SIZE * i, SvdPlace::from(r));
 }
 
 // The row call of `rows` on bytes: nine numbers for a matrix, and SVD_SIZE bytes for an answer.
-pub fn zanikory_svd_3x3_row(mats: &[u8], answers: &mut [u8]) -> u8
-    ensures { Outcome (svd_row_bytes_of F mats.now answers.old) result answers.new }
+pub fn zanikory_svd_3x3_row(mats: &[u8], answers: &mut [u8]) -> Result<(), Refusal>
+    ensures { Outcome (svd_row_bytes_of F mats.now answers.old) (code_of result) answers.new }
 {
-    let code = bytes_code(mats.len(), answers.len());
-    if code != DONE {
-        return code;
-    }
-    let n = mats.len() / MAT_SIZE;
-    let mut i = 0usize;
-    while i < n {
+    bytes_gate(mats.len(), answers.len())?;
+    // by the number of a place: of bytes that an iterator over places writes nothing is known
+    for i in 0..mats.len() / MAT_SIZE {
         answer_place(mats, answers, i);
-        i += 1usize;
     }
-    DONE
+    Ok(())
 }

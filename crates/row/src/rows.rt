@@ -1,100 +1,116 @@
-// Lent rows of structs: each place of the answers is what the single call gives for the matrix in this place.
-ghost use Rattle.std.specs.Prelude.{◌≡◌, ◌≤◌, min};
+// Lent rows of structs: each place of the answers is what the single call gives for the matrix in this place. Real is f64 (float::width).
+ghost use Rattle.std.specs.Prelude.{◌≡◌};
 ghost use Rattle.float.specs.Width.{F};
 ghost use Rattle.matrix.specs.Answer.{Outcome};
-ghost use Rattle.row.specs.Row.{gate_of, svd_row_of, room_places, filled, fill_of};
+ghost use Rattle.matrix.specs.Codes.{code_of, told};
+ghost use Rattle.svd.specs.Svd3x3.{refused_svd, whole_svd};
+ghost use Rattle.row.specs.Row.{row_code_of, svd_row_of, answer_in, answers_in, whole_filled, fill_of};
 
-use matrix::codes::{DONE, ROW_TOO_LONG, ROWS_UNEQUAL};
+use float::width::Real;
+use jacobi::made::Made;
+use matrix::codes::{DONE, Refusal};
 use matrix::square::Mat3;
 use svd::svd3x3::{Svd3, svd};
+
+// A place of a lent row: what the single call gives, with its code, and zeros where that is refused. Any code may stand in it before a call.
+#[derive(Clone, Copy)]
+pub struct SvdPlace {
+    pub code: u8,
+    pub made: Made,
+    pub settled: bool,
+    pub values: [Real; 3],
+    pub u: Mat3,
+    pub v: Mat3,
+    pub worked: Mat3,
+}
+
+// The place that an answer takes, with its code.
+fn place(code: u8, x: Svd3) -> SvdPlace
+    ensures { result ≡ record { code = code; made = x.made; settled = x.settled; values = x.values; u = x.u; v = x.v; worked = x.worked } }
+{
+    let Svd3 {
+        made,
+        settled,
+        values,
+        u,
+        v,
+        worked,
+    } = x;
+    SvdPlace {
+        code,
+        made,
+        settled,
+        values,
+        u,
+        v,
+        worked,
+    }
+}
+
+impl From<Result<Svd3, Refusal>> for SvdPlace {
+    ghost from_gives = { λ r p. answer_in p ≡ told (refused_svd F) whole_svd r };
+
+    fn from(r: Result<Svd3, Refusal>) -> SvdPlace {
+        match r {
+            Ok(x) => place(DONE, x),
+            Err(e) => place(
+                u8::from(e),
+                Svd3 {
+                    made: Made { count: 0 },
+                    settled: false,
+                    values: [0.0; 3],
+                    u: Mat3::zeros(),
+                    v: Mat3::zeros(),
+                    worked: Mat3::zeros(),
+                },
+            ),
+        }
+    }
+}
 
 // The most places that a row may have.
 const MOST: usize = 64;
 
-// The code, and how many places are filled.
-#[derive(Clone, Copy)]
-pub(crate) struct Gate {
-    pub code: u8,
-    pub stop: usize,
-}
-
 // By the lengths alone: of the matrices' row, and of the answers'.
-#[tactic(auto, unfolding(crate::specs::Row::gate_of, crate::specs::Row::row_code_of))]
-pub(crate) fn row_gate(mats: usize, answers: usize) -> Gate
-    ensures { result ≡ gate_of mats answers }
+#[tactic(auto, unfolding(crate::specs::Row::row_code_of))]
+pub(crate) fn row_gate(mats: usize, answers: usize) -> Result<(), Refusal>
+    ensures { code_of result ≡ row_code_of mats answers }
 {
     if mats != answers {
-        return Gate {
-            code: ROWS_UNEQUAL,
-            stop: 0,
-        };
+        return Err(Refusal::RowsUnequal);
     }
     if mats > MOST {
-        return Gate {
-            code: ROW_TOO_LONG,
-            stop: 0,
-        };
+        return Err(Refusal::RowTooLong);
     }
-    Gate {
-        code: DONE,
-        stop: mats,
-    }
+    Ok(())
 }
 
-// Fills the lent row. A refused row has no place to fill.
-pub fn svd_row(mats: &[Mat3], answers: &mut [Svd3]) -> u8
-    ensures { Outcome (svd_row_of F mats.now answers.old) result answers.new }
+// Fills the lent row; a refused one stays as it is.
+pub fn svd_row(mats: &[Mat3], answers: &mut [SvdPlace]) -> Result<(), Refusal>
+    ensures { Outcome (svd_row_of F mats.now (answers_in answers.old)) (code_of result) (answers_in answers.new) }
 {
-    let g = row_gate(mats.len(), answers.len());
-    let stop = g.stop;
-    let mut i: usize = 0;
-    while i < stop {
-        let m = mats[i];
-        let x = svd(m);
-        answers[i] = x;
-        i = i + 1;
+    row_gate(mats.len(), answers.len())?;
+    // over the places by their index: of what an iterator over both rows writes nothing is known
+    for (i, place) in answers.iter_mut().enumerate() {
+        *place = SvdPlace::from(svd(mats[i]));
     }
-    g.code
+    Ok(())
 }
 
 // One place more than a row may have, so that every refusal can be seen.
 pub const ROOM: usize = MOST + 1;
 
+// How the call ended, and the places as it left them.
 #[derive(Clone, Copy)]
 pub struct Filled {
-    pub code: u8,
-    pub answers: [Svd3; ROOM],
+    pub ended: Result<(), Refusal>,
+    pub answers: [SvdPlace; ROOM],
 }
 
-fn fill(code: u8, answers: [Svd3; ROOM]) -> Filled
-    ensures { result ≡ filled code answers }
+// The same on copies, of which the first n matrices and the first m places are lent. Numbers above ROOM count as ROOM.
+pub fn svd_row_of(mats: [Mat3; ROOM], n: usize, mut answers: [SvdPlace; ROOM], m: usize) -> Filled
+    ensures { whole_filled result ≡ fill_of F mats n (answers_in answers) m }
 {
-    Filled { code, answers }
-}
-
-// Lends the first n matrices and the first m answers.
-fn lend(mats: [Mat3; ROOM], n: usize, answers: [Svd3; ROOM], m: usize) -> Filled
-    requires { (n ≤ room_places) × (m ≤ room_places) }
-    ensures { result ≡ fill_of F mats n answers m }
-{
-    let ms = mats;
-    let mut ys = answers;
-    let c = svd_row(&ms[..n], &mut ys[..m]);
-    fill(c, ys)
-}
-
-fn within(n: usize) -> usize
-    ensures { result ≡ min n room_places }
-{
-    if n <= ROOM {
-        return n;
-    }
-    ROOM
-}
-
-// The same on copies. Numbers above ROOM count as ROOM.
-pub fn svd_row_of(mats: [Mat3; ROOM], n: usize, answers: [Svd3; ROOM], m: usize) -> Filled
-    ensures { result ≡ fill_of F mats n answers m }
-{
-    lend(mats, within(n), answers, within(m))
+    let ended = svd_row(&mats[..n.min(ROOM)], &mut answers[..m.min(ROOM)]);
+    Filled { ended, answers }
 }

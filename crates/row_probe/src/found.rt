@@ -7,8 +7,8 @@ use float::bits::of_bits;
 use float::width::{Bits, Real};
 use jacobi::made::Made;
 use matrix::square::Mat3;
-use row::rows::ROOM;
-use svd::svd3x3::Svd3;
+use row::rows::{ROOM, SvdPlace};
+use std::array;
 
 // The code and the count of the first place: no call gives such a code, and no run makes so many rotations.
 const FIRST_CODE: usize = 30;
@@ -18,53 +18,45 @@ const FIRST_COUNT: usize = 130;
 // The numbers of a place.
 const NUMBERS: usize = 30;
 
-// The k-th number above 0: k is its pattern.
-fn number(k: usize) -> Real {
-    of_bits(k as Bits)
-}
-
-fn nine(k: usize) -> Mat3
+// The k-th number above 0, and those after it: k is its pattern.
+fn numbers<const N: usize>(k: usize) -> [Real; N]
     requires { k ≤ 65536 }
 {
-    Mat3 {
-        data: [
-            number(k),
-            number(k + 1),
-            number(k + 2),
-            number(k + 3),
-            number(k + 4),
-            number(k + 5),
-            number(k + 6),
-            number(k + 7),
-            number(k + 8),
-        ],
+    let mut numbers = [0.0; N];
+    for (i, number) in numbers.iter_mut().enumerate() {
+        *number = of_bits((k as Bits).saturating_add(i as Bits));
     }
+    numbers
+}
+
+fn matrix(k: usize) -> Mat3
+    requires { k ≤ 65536 }
+{
+    Mat3 { data: numbers(k) }
 }
 
 // Place i. All numbers of all places, one after the other, are the first ones above 0.
-fn found(i: usize) -> Svd3
+fn found(i: usize) -> SvdPlace
     requires { i < room_places }
 {
     let k = NUMBERS * i + 1;
-    Svd3 {
+    SvdPlace {
         code: (FIRST_CODE + i) as u8,
         made: Made {
             count: (FIRST_COUNT + i) as u8,
         },
         settled: i % 2 == 1,
-        values: [number(k), number(k + 1), number(k + 2)],
-        u: nine(k + 3),
-        v: nine(k + 12),
-        worked: nine(k + 21),
+        values: numbers(k),
+        u: matrix(k + 3),
+        v: matrix(k + 12),
+        worked: matrix(k + 21),
     }
 }
 
-pub(crate) fn all_found() -> [Svd3; ROOM] {
-    let mut answers = [found(0); ROOM];
-    let mut i = 1;
-    while i < ROOM {
-        answers[i] = found(i);
-        i += 1;
-    }
-    answers
+pub(crate) fn all_found() -> [SvdPlace; ROOM] {
+    array::from_fn(
+        |i| -> SvdPlace
+            requires { i < room_places }
+        { found(i) },
+    )
 }

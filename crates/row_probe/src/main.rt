@@ -9,76 +9,77 @@ mod found;
 mod job;
 mod streams;
 
-ghost use Rattle.std.specs.Prelude.{◌≤◌};
-ghost use Rattle.row.specs.Row.{room_places};
-ghost use Rattle.row_probe.specs.Buffers.{Large};
-
-use crate::job::{JOB_ANSWER_SIZE, answer};
+use crate::job::{ANSWER_SIZE, Job, answer};
 use crate::streams::{read_full, write_all};
 use row::bytes::MAT_SIZE;
 use row::rows::ROOM;
+use std::fmt;
 
-fn say(rt: &HostRuntime, text: &[u8]) {
-    write_all(&mut rt.stderr(), text);
+// Why the program stops before the end of its input.
+#[derive(Clone, Copy, Debug, PartialEq, Eq)]
+enum Failure {
+    BadHeader,
+    CannotWrite,
 }
 
-// Whether the answer could be written.
-fn written(rt: &HostRuntime, answer: &[u8]) -> bool {
-    if write_all(&mut rt.stdout(), answer) {
-        return true;
+impl fmt::Display for Failure {
+    fn fmt<W: fmt::Write>(&self, f: &mut fmt::Formatter<W>) -> fmt::Result {
+        f.write_str(match self {
+            Failure::BadHeader => "bad header",
+            Failure::CannotWrite => "cannot write",
+        })
     }
-    say(rt, b"row_probe: cannot write\n");
-    false
 }
 
-// 65 matrices go into one buffer, and the answer to a job into another of this size.
-const BUFFER_SIZE: usize = 65536;
+// The matrices of a job, and the answer to it.
+#[derive(Drop)]
+struct Buffers {
+    mats: [u8; MAT_SIZE * ROOM],
+    answer: [u8; ANSWER_SIZE],
+}
 
-// Reads n matrices and answers their job; says whether all came and could be answered. A read that fails counts as the end.
-fn serve(rt: &HostRuntime, buf: &mut [u8], out: &mut [u8], n: usize, m: usize) -> bool
-    requires { Large buf.old × Large out.old × (n ≤ room_places) }
-{
-    let end = MAT_SIZE * n;
-    let came = read_full(&mut rt.stdin(), &mut buf[..end]);
-    if came != end {
-        return false;
+// The next job, if there is one. A read that fails counts as the end of the input.
+fn next_job(rt: &HostRuntime) -> Result<Option<Job>, Failure> {
+    let mut header = [0; 2];
+    if read_full(&mut rt.stdin(), &mut header) != 2 {
+        return Ok(None);
     }
-    answer(buf, out, n, m);
-    written(rt, &out[..JOB_ANSWER_SIZE])
+    Ok(Some(Job::new(header).ok_or(Failure::BadHeader)?))
 }
 
-// Of a byte that stands in an array the proof does not know that it is below 256; of one that is passed it does.
-fn wide(x: u8) -> usize {
-    x as usize
-}
-
-// Reads a header and answers its job; says whether another header may follow.
-fn answer_job(rt: &HostRuntime, buf: &mut [u8], out: &mut [u8]) -> bool
-    requires { Large buf.old × Large out.old }
-{
-    let mut head = [0u8; 2];
-    let came = read_full(&mut rt.stdin(), &mut head);
-    if came != 2 {
-        return false;
+// Reads a job's matrices and answers it; says whether all of them came.
+fn serve(rt: &HostRuntime, buffers: &mut Buffers, job: Job) -> Result<bool, Failure> {
+    let end = MAT_SIZE * job.n;
+    if read_full(&mut rt.stdin(), &mut buffers.mats[..end]) != end {
+        return Ok(false);
     }
-    let n = wide(head[0]);
-    let m = wide(head[1]);
-    if ROOM < n || ROOM < m {
-        say(rt, b"row_probe: bad header\n");
-        return false;
+    answer(&buffers.mats[..end], &mut buffers.answer, job);
+    if write_all(&mut rt.stdout(), &buffers.answer) {
+        Ok(true)
+    } else {
+        Err(Failure::CannotWrite)
     }
-    serve(rt, buf, out, n, m)
 }
 
-// A proved loop has to end, and nothing says that the input does: the jobs count down from a number that no run uses up.
-fn main(rt: HostRuntime) {
-    let mut buf = [0u8; BUFFER_SIZE];
-    let mut out = [0u8; BUFFER_SIZE];
-    let mut jobs = u64::MAX;
-    while jobs > 0 {
-        if !answer_job(&rt, &mut buf, &mut out) {
-            return;
+// A proved loop has to end, and nothing says that the input does: no run uses up so many jobs.
+fn run(rt: &HostRuntime) -> Result<(), Failure> {
+    let mut buffers = Buffers {
+        mats: [0; MAT_SIZE * ROOM],
+        answer: [0; ANSWER_SIZE],
+    };
+    for _ in 0..u64::MAX {
+        let Some(job) = next_job(rt)? else {
+            return Ok(());
+        };
+        if !serve(rt, &mut buffers, job)? {
+            return Ok(());
         }
-        jobs -= 1;
+    }
+    Ok(())
+}
+
+fn main(rt: HostRuntime) {
+    if let Err(why) = run(&rt) {
+        let _ = eprintln!(rt; "row_probe: {why}");
     }
 }

@@ -1,31 +1,61 @@
 // Reading, writing and moving the numbers of a matrix where they stand, in a lent array. Real is f64 (float::width).
+// C has no Result and no generic function: each entry hands out the code as a number, takes row and column by themselves, and has a name for each size.
 ghost use Rattle.std.specs.Prelude.{◌≡◌};
 ghost use Rattle.float.specs.Width.{F};
 ghost use Rattle.matrix.specs.Answer.{Outcome, done, entry};
-ghost use Rattle.matrix.specs.Indexed.{read_of, write_of, swap_columns_of, flip_column_of, mat2_answer, mat3_answer, sym2_answer, sym3_answer};
+ghost use Rattle.matrix.specs.Indexed.{read_of, write_of, swap_columns_of, flip_column_of, moved_or, packed_or};
+ghost use Rattle.matrix.specs.Indexed.{mat2_answer, mat3_answer, sym2_answer, sym3_answer};
 ghost use Rattle.matrix.specs.Places.{square_index, packed_index};
 ghost use Rattle.matrix.specs.Square.{identity_of, transpose_of};
 ghost use Rattle.shown.specs.Left.{left};
 
 use float::width::Real;
-use matrix::answers::Entry;
-use matrix::codes::{DONE, OUTSIDE};
+use matrix::codes::{DONE, Refusal};
+use matrix::shape::{DenseMatrixN, DenseMatrixSymN};
 use matrix::square::{Mat2, Mat3};
 use matrix::symmetric::{Sym2, Sym3};
 
 // The place takes the number, or +0.
-fn put_entry(place: &mut Real, x: Entry) -> u8
+fn put_entry(place: &mut Real, x: Option<Real>) -> u8
     ensures { left result place.new ≡ entry F x }
 {
-    match x {
-        Entry::Number(number) => {
-            *place = number;
+    let Some(number) = x else {
+        *place = 0.0;
+        return u8::from(Refusal::Outside);
+    };
+    *place = number;
+    DONE
+}
+
+// The array takes the numbers of the matrix, and keeps its own where there is none.
+fn put_moved<const N: usize, const S: usize>(
+    a: &mut [Real; S],
+    moved: Result<DenseMatrixN<N, S>, Refusal>,
+) -> u8
+    ensures { left result a.new ≡ moved_or a.old moved.entry }
+{
+    match moved {
+        Ok(m) => {
+            a.copy_from_slice(&m.data);
             DONE
         }
-        Entry::Outside => {
-            *place = 0.0;
-            OUTSIDE
+        Err(e) => u8::from(e),
+    }
+}
+
+// The same of a symmetric matrix, which is another type and has another view.
+fn put_written<const N: usize, const S: usize>(
+    a: &mut [Real; S],
+    written: Result<DenseMatrixSymN<N, S>, Refusal>,
+) -> u8
+    ensures { left result a.new ≡ packed_or a.old written.entry }
+{
+    match written {
+        Ok(m) => {
+            a.copy_from_slice(&m.data);
+            DONE
         }
+        Err(e) => u8::from(e),
     }
 }
 
@@ -33,10 +63,8 @@ fn put_entry(place: &mut Real, x: Entry) -> u8
 pub extern "C" fn zanikory_mat2_transpose(a: &mut [Real; 4]) -> u8
     ensures { Outcome (done (transpose_of 2 a.old)) result a.new }
 {
-    let m = Mat2 { data: *a };
-    let moved = m.transpose_in_place();
-    let d = moved.data;
-    *a = d;
+    let moved = Mat2 { data: *a }.transpose_in_place();
+    a.copy_from_slice(&moved.data);
     DONE
 }
 
@@ -44,10 +72,8 @@ pub extern "C" fn zanikory_mat2_transpose(a: &mut [Real; 4]) -> u8
 pub extern "C" fn zanikory_mat2_set_identity(a: &mut [Real; 4]) -> u8
     ensures { Outcome (done (identity_of F 2)) result a.new }
 {
-    let m = Mat2 { data: *a };
-    let identity = m.set_identity();
-    let d = identity.data;
-    *a = d;
+    let moved = Mat2 { data: *a }.set_identity();
+    a.copy_from_slice(&moved.data);
     DONE
 }
 
@@ -56,11 +82,7 @@ pub extern "C" fn zanikory_mat2_swap_columns(i: usize, j: usize, a: &mut [Real; 
     ensures { mat2_answer (left result a.new) ≡ mat2_answer (swap_columns_of 2 i j a.old) }
 {
     let m = Mat2 { data: *a };
-    let r = m.swap_columns(i, j);
-    let moved = r.matrix;
-    let d = moved.data;
-    *a = d;
-    r.code
+    put_moved(a, m.swap_columns(i, j))
 }
 
 #[unsafe(no_mangle)]
@@ -68,11 +90,7 @@ pub extern "C" fn zanikory_mat2_flip_column(i: usize, a: &mut [Real; 4]) -> u8
     ensures { mat2_answer (left result a.new) ≡ mat2_answer (flip_column_of 2 i a.old) }
 {
     let m = Mat2 { data: *a };
-    let r = m.flip_column(i);
-    let moved = r.matrix;
-    let d = moved.data;
-    *a = d;
-    r.code
+    put_moved(a, m.flip_column(i))
 }
 
 #[unsafe(no_mangle)]
@@ -98,21 +116,15 @@ pub extern "C" fn zanikory_mat2_index_mut(
     ensures { mat2_answer (left result a.new) ≡ mat2_answer (write_of 2 row column (square_index 2 row column) x a.old) }
 {
     let m = Mat2 { data: *a };
-    let r = m.index_mut(row, column, x);
-    let written = r.matrix;
-    let d = written.data;
-    *a = d;
-    r.code
+    put_moved(a, m.index_mut(row, column, x))
 }
 
 #[unsafe(no_mangle)]
 pub extern "C" fn zanikory_mat3_transpose(a: &mut [Real; 9]) -> u8
     ensures { Outcome (done (transpose_of 3 a.old)) result a.new }
 {
-    let m = Mat3 { data: *a };
-    let moved = m.transpose_in_place();
-    let d = moved.data;
-    *a = d;
+    let moved = Mat3 { data: *a }.transpose_in_place();
+    a.copy_from_slice(&moved.data);
     DONE
 }
 
@@ -120,10 +132,8 @@ pub extern "C" fn zanikory_mat3_transpose(a: &mut [Real; 9]) -> u8
 pub extern "C" fn zanikory_mat3_set_identity(a: &mut [Real; 9]) -> u8
     ensures { Outcome (done (identity_of F 3)) result a.new }
 {
-    let m = Mat3 { data: *a };
-    let identity = m.set_identity();
-    let d = identity.data;
-    *a = d;
+    let moved = Mat3 { data: *a }.set_identity();
+    a.copy_from_slice(&moved.data);
     DONE
 }
 
@@ -132,11 +142,7 @@ pub extern "C" fn zanikory_mat3_swap_columns(i: usize, j: usize, a: &mut [Real; 
     ensures { mat3_answer (left result a.new) ≡ mat3_answer (swap_columns_of 3 i j a.old) }
 {
     let m = Mat3 { data: *a };
-    let r = m.swap_columns(i, j);
-    let moved = r.matrix;
-    let d = moved.data;
-    *a = d;
-    r.code
+    put_moved(a, m.swap_columns(i, j))
 }
 
 #[unsafe(no_mangle)]
@@ -144,11 +150,7 @@ pub extern "C" fn zanikory_mat3_flip_column(i: usize, a: &mut [Real; 9]) -> u8
     ensures { mat3_answer (left result a.new) ≡ mat3_answer (flip_column_of 3 i a.old) }
 {
     let m = Mat3 { data: *a };
-    let r = m.flip_column(i);
-    let moved = r.matrix;
-    let d = moved.data;
-    *a = d;
-    r.code
+    put_moved(a, m.flip_column(i))
 }
 
 #[unsafe(no_mangle)]
@@ -174,11 +176,7 @@ pub extern "C" fn zanikory_mat3_index_mut(
     ensures { mat3_answer (left result a.new) ≡ mat3_answer (write_of 3 row column (square_index 3 row column) x a.old) }
 {
     let m = Mat3 { data: *a };
-    let r = m.index_mut(row, column, x);
-    let written = r.matrix;
-    let d = written.data;
-    *a = d;
-    r.code
+    put_moved(a, m.index_mut(row, column, x))
 }
 
 #[unsafe(no_mangle)]
@@ -205,11 +203,7 @@ pub extern "C" fn zanikory_sym2_index_mut(
     ensures { sym2_answer (left result a.new) ≡ sym2_answer (write_of 2 row column (packed_index row column) x a.old) }
 {
     let m = Sym2::zeros().copy_from(Sym2 { data: *a });
-    let r = m.index_mut(row, column, x);
-    let written = r.matrix;
-    let d = written.data;
-    *a = d;
-    r.code
+    put_written(a, m.index_mut(row, column, x))
 }
 
 #[unsafe(no_mangle)]
@@ -236,9 +230,5 @@ pub extern "C" fn zanikory_sym3_index_mut(
     ensures { sym3_answer (left result a.new) ≡ sym3_answer (write_of 3 row column (packed_index row column) x a.old) }
 {
     let m = Sym3::zeros().copy_from(Sym3 { data: *a });
-    let r = m.index_mut(row, column, x);
-    let written = r.matrix;
-    let d = written.data;
-    *a = d;
-    r.code
+    put_written(a, m.index_mut(row, column, x))
 }

@@ -1,4 +1,3 @@
-pub mod Moving
 pub mod Outcomes
 pub mod Rest
 pub mod Writings

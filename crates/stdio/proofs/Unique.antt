@@ -1,5 +1,5 @@
 -- Any two answers within the promise of a public function are equal. Each promise is read from the source, as a caller reads it.
-use Rattle.float.proofs.Words.{Bool, ℕ, ℤ}
+use Rattle.float.proofs.Words.{ℕ}
 use Rattle.std.specs.Prelude.{Result}
 use Rattle.std.specs.declared.io.Error.{Error}
 use contract.Lifetimes.{Lfts}
@@ -7,15 +7,10 @@ use Rattle.float.specs.OneAnswer.{OneAnswer, OneOutcome}
 use Rattle.float.proofs.OneAnswer.{named, left_named}
 use Rattle.stdio.specs.declared.Outcome.{Outcome}
 use Rattle.stdio.specs.declared.Writing.{Writing}
-use Rattle.stdio.proofs.outcome_of.Reads as outcome-of
 use Rattle.stdio.proofs.ended.Reads as ended
 use Rattle.stdio.proofs.to_write.Reads as to_write
 use Rattle.stdio.proofs.wrote.Reads as wrote
 use Rattle.stdio.proofs.keep_rest.Reads as keep-rest
-
-pub one_outcome_of : (got : ℤ) (most : ℕ) (interrupted : Bool)
-    → OneAnswer (λ (r : Outcome). outcome-of.Post tt (got, (most, (interrupted, tt))) r (got, (most, (interrupted, tt))))
-one_outcome_of got most interrupted = named _
 
 pub one_ended : (got : Result ℕ Error) (most : ℕ)
     → OneAnswer (λ (r : Outcome). ended.Post tt (got, (most, tt)) r (got, (most, tt)))

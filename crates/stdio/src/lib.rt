@@ -2,18 +2,18 @@
 // next read. The calls themselves stand in the programs, since what they move no contract can say; what follows from it is said here.
 #![tactic(auto)]
 
-ghost use Rattle.std.specs.Prelude.{◌≡◌, false, pos, ◌++◌, ◌+◌, ◌-◌, ◌≤◌, min, length, take, drop};
-ghost use Rattle.stdio.specs.Calls.{outcome_of, ended_of, to_write_of, up_to, wrote_of};
+ghost use Rattle.std.specs.Prelude.{◌≡◌};
+ghost use Rattle.stdio.specs.Calls.{ended_of, to_write_of, up_to, wrote_of};
 ghost use Rattle.stdio.specs.Kept.{kept_of};
 
 use std::io;
 use std::io::ErrorKind;
 
-// A proved loop has to end, and nothing says that the input does, or that a call is let through at last. So loops of calls count
-// down from a number that no run uses up.
+// A proved loop has to end, and nothing says that the input does, or that a call is let through at last. So a loop of calls makes at
+// most so many, which no run uses up.
 pub const MOST_CALLS: u64 = 9007199254740992;
 
-// How a read or a write ended.
+// How a read or a write ended. Of these four a Result has two: an end of the input and a call that is to be made again are no failures.
 #[derive(Clone, Copy)]
 pub enum Outcome {
     // So many bytes are read or written.
@@ -25,121 +25,51 @@ pub enum Outcome {
     Failed,
 }
 
-// How a call ended that was handed `most` bytes and answered `got`.
-pub fn outcome_of(got: isize, most: usize, interrupted: bool) -> Outcome
-    ensures { result ≡ outcome_of got most interrupted }
-{
-    if got > 0 {
-        let n = got as usize;
-        if n < most {
-            return Outcome::Bytes(n);
-        }
-        return Outcome::Bytes(most);
-    }
-    if got == 0 {
-        return Outcome::Nothing;
-    }
-    if interrupted {
-        return Outcome::Interrupted;
-    }
-    Outcome::Failed
-}
-
-fn moved(n: usize, most: usize) -> Outcome
-    ensures { result ≡ outcome_of (pos n) most false }
-{
-    if n == 0 {
-        return Outcome::Nothing;
-    }
-    if n < most {
-        return Outcome::Bytes(n);
-    }
-    Outcome::Bytes(most)
-}
-
-// The same of a call that answers how many bytes it moved, and else why it failed.
+// How a call ended that was handed `most` bytes, and answers how many of them it moved, and else why it failed.
+#[tactic(auto, using(crate::proofs::Outcomes::counted), unfolding(crate::specs::Calls::outcome_of))]
 pub fn ended(got: io::Result<usize>, most: usize) -> Outcome
     ensures { result ≡ ended_of got most }
 {
     match got {
-        Ok(n) => moved(n, most),
-        Err(e) => outcome_of(-1, most, e.kind() == ErrorKind::Interrupted),
+        Ok(0) => Outcome::Nothing,
+        Ok(n) => Outcome::Bytes(n.min(most)),
+        Err(e) if e.kind() == ErrorKind::Interrupted => Outcome::Interrupted,
+        Err(_) => Outcome::Failed,
     }
 }
 
-// Bytes on their way out: so many are written, and so many calls may follow, which is none once the writing has ended.
+// Bytes on their way out: so many are written, and so many calls may follow, which is none once the writing has ended. The calls are
+// counted here and not in the range of a `for`, since the bound is promised (`to_write_of`, `calls_fall`).
 #[derive(Clone, Copy)]
 pub struct Writing {
     pub written: usize,
     pub calls: u64,
 }
 
+// So many bytes of `end` are written, and no call follows where that is all of them.
+fn up_to(written: usize, end: usize, calls: u64) -> Writing
+    ensures { result ≡ up_to written end calls }
+{
+    let calls = if written < end { calls } else { 0 };
+    Writing { written, calls }
+}
+
 // Before the first call for `end` bytes.
 pub fn to_write(end: usize) -> Writing
     ensures { result ≡ to_write_of end }
 {
-    if end == 0 {
-        return Writing {
-            written: 0,
-            calls: 0,
-        };
-    }
-    Writing {
-        written: 0,
-        calls: MOST_CALLS,
-    }
+    up_to(0, end, MOST_CALLS)
 }
 
-fn one_less(calls: u64) -> u64
-    ensures { result ≡ calls - 1 }
-{
-    if calls == 0 {
-        return 0;
-    }
-    calls - 1
-}
-
-// Written up to n bytes behind `written`, and never past `end`.
-fn up_to(written: usize, n: usize, end: usize, calls: u64) -> Writing
-    ensures { result ≡ up_to (min (written + n) end) end calls }
-{
-    if written < end {
-        if n < end - written {
-            return Writing {
-                written: written + n,
-                calls,
-            };
-        }
-    }
-    Writing {
-        written: end,
-        calls: 0,
-    }
-}
-
-// After one more call, for the bytes from `written` on. A write that takes nothing has failed, and the writing ends.
+// After one more call, for the bytes from `w.written` on. A write that takes nothing has failed, and the writing ends.
 pub fn wrote(w: Writing, end: usize, o: Outcome) -> Writing
     ensures { result ≡ wrote_of w end o }
 {
-    let written = w.written;
-    let calls = one_less(w.calls);
+    let calls = w.calls.saturating_sub(1);
     match o {
-        Outcome::Bytes(n) => up_to(written, n, end, calls),
-        Outcome::Interrupted => Writing { written, calls },
-        Outcome::Nothing => Writing { written, calls: 0 },
-        Outcome::Failed => Writing { written, calls: 0 },
-    }
-}
-
-// Byte after byte from the first: each is read at or behind where it goes.
-fn move_down(buf: &mut [u8], from: usize, n: usize)
-    requires { from + n ≤ length buf.old }
-    ensures { buf.new ≡ take n (drop from buf.old) ++ drop n buf.old }
-{
-    let mut i = 0usize;
-    while i < n {
-        buf[i] = buf[from + i];
-        i += 1usize;
+        Outcome::Bytes(n) => up_to(w.written.saturating_add(n).min(end), end, calls),
+        Outcome::Interrupted => Writing { calls, ..w },
+        Outcome::Nothing | Outcome::Failed => Writing { calls: 0, ..w },
     }
 }
 
@@ -148,11 +78,7 @@ fn move_down(buf: &mut [u8], from: usize, n: usize)
 pub fn keep_rest(buf: &mut [u8], from: usize, n: usize)
     ensures { buf.new ≡ kept_of from n buf.old }
 {
-    if buf.len() < from {
-        return;
+    if from <= buf.len() && n <= buf.len() - from {
+        buf.copy_within(from..from + n, 0);
     }
-    if buf.len() - from < n {
-        return;
-    }
-    move_down(buf, from, n);
 }

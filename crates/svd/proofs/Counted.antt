@@ -1,14 +1,15 @@
 -- Count and mark are those of the definition's states: each step raises the count by one, and the mark is the test of the last state and of every step to it.
-use Rattle.float.proofs.Words.{◌≡◌, refl, sym, ap, ◌∙◌, subst₂, Bool, true, false, List, ◌⊎◌, ℕ, ◌≤◌, ◌<◌, Float, Format}
+use Rattle.float.proofs.Words.{◌≡◌, refl, sym, ap, ◌∙◌, subst, subst₂, Bool, true, false, List, ◌⊎◌, ℕ, ◌≤◌, ◌<◌, Float, Format}
+use Rattle.std.specs.Prelude.{Ok}
 use Rattle.float.specs.Width.{F}
 use Rattle.float.specs.Exactly.{Exactly}
-use Rattle.matrix.specs.declared.square.Mat3.{Mat3}
+use Rattle.matrix.specs.Square.{Mat3}
 use Rattle.jacobi.specs.Blind.{sighted}
 use Rattle.jacobi.specs.declared.made.Made.{Made}
 use Rattle.jacobi.proofs.Run.{ran_one, ran_counted}
 use Rattle.jacobi.proofs.Watched.{watched_blind, mark_means}
 use Rattle.svd.specs.Pairs.{blind_at}
-use Rattle.svd.specs.Svd3x3.{State, settled_of, step_of, run_of, start_of, last_of, watched_of, watched_last_of, svd_of}
+use Rattle.svd.specs.Svd3x3.{State, settled_of, step_of, run_of, start_of, last_of, watched_of, watched_last_of, svd_of, SvdAnswer}
 use Rattle.svd.specs.Counted.{RanFor, state_after, NoneBlindIn, Counted}
 use Rattle.svd.specs.declared.svd3x3.Svd3.{Svd3}
 use Rattle.svd.proofs.Answered.{answered}
@@ -30,8 +31,9 @@ counted f a e =
     rw (answered f a e).answer
     (record { last = refl; mark = mark_means (watched_last_of f a).blind _ ((λ e. e), (λ e. e)) (blind_counted f a); ran = states_counted f a })
 
-pub counted_call : (a : Mat3) (r : Svd3) → svd.Post tt (a, tt) r (a, tt) → r.code ≡ 0 → Counted F a.«data» r.made r.settled
-counted_call a r p e = rw p (counted F a.«data» (sym (ap (λ (r : Svd3). r.code) p) ∙ e))
+pub counted_call : (a : Mat3) (r : Svd3) → svd.Post tt (a, tt) (Ok r) (a, tt) → Counted F a.«data» r.made r.settled
+counted_call a r p =
+    subst (λ (q : SvdAnswer). Counted F a.«data» q.made q.settled) (sym p) (counted F a.«data» (sym (ap (λ (q : SvdAnswer). q.code) p)))
 
 -- only one number is the count: that of the steps to the first settled state, or 25 where none is; and the mark is that of those states
 pub count_told : (f : Format) (a : List Float) (made : Made) (settled : Bool) → Counted f a made settled

@@ -14,12 +14,10 @@ use Rattle.jacobi.proofs.Moves.{each}
 use Rattle.jacobi.proofs.Sorted.{below3}
 use Rattle.svd.specs.Polar.{two_sided_of, blind_sides}
 use Rattle.svd.specs.Pairs.{entry, pair_of, sides_of, chosen_of, applied_of}
-use Rattle.svd.specs.Svd2x2.{sides2_of, factors2_of, refused_svd2, numbers2_of, answer2_of, end2_of, svd2_of}
+use Rattle.svd.specs.Svd2x2.{sides2_of, factors2_of, refused_svd2, numbers2_of, answer2_of, end2_of, svd2_of, Svd2Answer}
 use Rattle.svd.specs.Svd3x3.{State, settled_of, step_of, run_of, start_of, last_of, watched_last_of, factors_of, refused_svd, numbers_of, answer_of, end_of}
-use Rattle.svd.specs.Svd3x3.{svd_of}
+use Rattle.svd.specs.Svd3x3.{svd_of, SvdAnswer}
 use Rattle.svd.specs.declared.polar.TwoSided.{TwoSided}
-use Rattle.svd.specs.declared.svd2x2.Svd2.{Svd2}
-use Rattle.svd.specs.declared.svd3x3.Svd3.{Svd3}
 use Rattle.svd.proofs.Watched.{watched_ends}
 use Rattle.svd.proofs.Moved.{same_permutation, same_permutation2}
 
@@ -73,7 +71,7 @@ values_fit f a n h =
     let given : NineFit f a = subst (NineFit f) (tabulate_all 9 a n)
     (nine (h 0 (omega arith)) (h 1 (omega arith)) (h 2 (omega arith)) (h 3 (omega arith)) (h 4 (omega arith)) (h 5 (omega arith))
     (h 6 (omega arith)) (h 7 (omega arith)) (h 8 (omega arith))) in
-    by_call (refused_svd f) a (numbers_of w.state) (answer_of f w) (λ (r : Svd3). Fit f 3 r.values)
+    by_call (refused_svd f) a (numbers_of w.state) (answer_of f w) (λ (r : SvdAnswer). Fit f 3 r.values)
     (λ _ _. factors_fit f w.state (rw (watched_ends f a) (last_fit f a given)))
     (λ _ _. zeros_fit f 3) (λ _. zeros_fit f 3)
 
@@ -83,7 +81,7 @@ unfolding svd2_of end2_of factors2_of
 values2_fit f a =
     let r = sides2_of f a in
     let x = factors2_of r in
-    by_call (refused_svd2 f) a (numbers2_of x) (answer2_of (blind_sides f r) x) (λ (r : Svd2). Fit f 2 r.values)
+    by_call (refused_svd2 f) a (numbers2_of x) (answer2_of (blind_sides f r) x) (λ (r : Svd2Answer). Fit f 2 r.values)
     (λ _ _. each (same_permutation2 r.d1 r.d2 _ _) (λ (v : Float). T (fits f v)) two)
     (λ _ _. zeros_fit f 2) (λ _. zeros_fit f 2)
   where

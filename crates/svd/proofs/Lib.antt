@@ -1,5 +1,6 @@
+pub mod Applied
 pub mod Signed
-pub mod Rounds
+pub mod Placed
 pub mod Watched
 pub mod Answered
 pub mod Counted

@@ -1,19 +1,19 @@
 -- The values of an answer are magnitudes in order, and finite, so they descend to zero or above.
-use Rattle.float.proofs.Words.{◌≡◌, sym, ap, ◌∙◌, true, false, List, ◌++◌, ℕ, ◌<◌, arith, length, Float, Format}
+use Rattle.float.proofs.Words.{◌≡◌, sym, ap, subst, true, false, List, ◌++◌, ℕ, ◌<◌, arith, length, Float, Format}
+use Rattle.std.specs.Prelude.{Ok}
 use Rattle.float.specs.Width.{F}
 use Rattle.float.specs.Sign.{sign_bit_of, finite}
 use Rattle.float.proofs.Finite.{at-finite, parts_finite, magnitude_finite, magnitude_unsigned}
 use Rattle.float.proofs.Zeros.{zero-least}
 use Rattle.matrix.specs.Places.{at}
-use Rattle.matrix.specs.declared.square.Mat2.{Mat2}
-use Rattle.matrix.specs.declared.square.Mat3.{Mat3}
+use Rattle.matrix.specs.Square.{Mat2, Mat3}
 use Rattle.jacobi.specs.Moved.{Moved, Sorted, at_least}
 use Rattle.jacobi.proofs.Moves.{each, each_before}
 use Rattle.jacobi.proofs.Sorted.{below2, below3, downward, sorts2, sorts3}
 use Rattle.svd.specs.Pairs.{entry}
 use Rattle.svd.specs.Order.{Factors, signed3_of, signed2_of, exchange_both, order_of, order2_of}
-use Rattle.svd.specs.Svd3x3.{last_of, factors_of, svd_of}
-use Rattle.svd.specs.Svd2x2.{turn2, sides2_of, factors2_of, svd2_of}
+use Rattle.svd.specs.Svd3x3.{last_of, factors_of, svd_of, SvdAnswer}
+use Rattle.svd.specs.Svd2x2.{turn2, sides2_of, factors2_of, svd2_of, Svd2Answer}
 use Rattle.svd.specs.Ordered.{BothFollow, InOrder, last_signed, last2_signed}
 use Rattle.svd.specs.declared.svd2x2.Svd2.{Svd2}
 use Rattle.svd.specs.declared.svd3x3.Svd3.{Svd3}
@@ -71,9 +71,12 @@ in_order f a n e =
     (three_in_order f (entry s.matrix 0 0) (entry s.matrix 1 1) (entry s.matrix 2 2) s.u s.v (g 0 (omega arith)) (g 4 (omega arith))
     (g 8 (omega arith)))
 
-pub in_order_call : (a : Mat3) (r : Svd3) → length a.«data» ≡ 9 → svd3x3-svd.Post tt (a, tt) r (a, tt) → r.code ≡ 0
+pub in_order_call : (a : Mat3) (r : Svd3) → length a.«data» ≡ 9 → svd3x3-svd.Post tt (a, tt) (Ok r) (a, tt)
     → InOrder F 3 (last_signed F a.«data») (record { values = r.values; carried = record { u = r.u.«data»; v = r.v.«data» } })
-in_order_call a r n p e = rw p (in_order F a.«data» n (sym (ap (λ (r : Svd3). r.code) p) ∙ e))
+in_order_call a r n p =
+    subst
+    (λ (q : SvdAnswer). InOrder F 3 (last_signed F a.«data») (record { values = q.values; carried = record { u = q.u.«data»; v = q.v.«data» } }))
+    (sym p) (in_order F a.«data» n (sym (ap (λ (q : SvdAnswer). q.code) p)))
 
 pub in_order2 : (f : Format) (a : List Float) → (svd2_of f a).code ≡ 0
     → InOrder f 2 (last2_signed f a) (record { values = (svd2_of f a).values; carried = record { u = (svd2_of f a).u.«data»; v = (svd2_of f a).v.«data» } })
@@ -86,6 +89,9 @@ in_order2 f a e =
     let g = at-finite w.values (parts_finite w.values (w.carried.u ++ w.carried.v) d.numbers).0 in
     rw d.answer (two_in_order f r.d1 r.d2 (turn2 r.cl r.sl) (turn2 r.cr r.sr) (λ c h. g c (omega arith)))
 
-pub in_order2_call : (a : Mat2) (r : Svd2) → svd2x2-svd.Post tt (a, tt) r (a, tt) → r.code ≡ 0
+pub in_order2_call : (a : Mat2) (r : Svd2) → svd2x2-svd.Post tt (a, tt) (Ok r) (a, tt)
     → InOrder F 2 (last2_signed F a.«data») (record { values = r.values; carried = record { u = r.u.«data»; v = r.v.«data» } })
-in_order2_call a r p e = rw p (in_order2 F a.«data» (sym (ap (λ (r : Svd2). r.code) p) ∙ e))
+in_order2_call a r p =
+    subst
+    (λ (q : Svd2Answer). InOrder F 2 (last2_signed F a.«data») (record { values = q.values; carried = record { u = q.u.«data»; v = q.v.«data» } }))
+    (sym p) (in_order2 F a.«data» (sym (ap (λ (q : Svd2Answer). q.code) p)))

@@ -12,14 +12,12 @@ use Rattle.jacobi.proofs.Sorted.{below3}
 use Rattle.svd.specs.Polar.{blind_sides}
 use Rattle.svd.specs.Pairs.{entry}
 use Rattle.svd.specs.Order.{signed3_of}
-use Rattle.svd.specs.Svd3x3.{State, last_of, refused_svd, factors_of, numbers_of, answer_of, end_of, svd_of}
-use Rattle.svd.specs.Svd2x2.{sides2_of, factors2_of, refused_svd2, numbers2_of, answer2_of, end2_of, svd2_of}
+use Rattle.svd.specs.Svd3x3.{State, last_of, refused_svd, factors_of, numbers_of, answer_of, end_of, svd_of, SvdAnswer}
+use Rattle.svd.specs.Svd2x2.{sides2_of, factors2_of, refused_svd2, numbers2_of, answer2_of, end2_of, svd2_of, Svd2Answer}
 use Rattle.svd.specs.Owed.{svd3_parts, svd2_parts}
 use Rattle.svd.proofs.Watched.{ended_of, by_last}
 use Rattle.svd.proofs.Sizes.{FullState, last_full, factors_full, factors2_full}
 use Rattle.svd.proofs.Moved.{same_permutation}
-use Rattle.svd.specs.declared.svd2x2.Svd2.{Svd2}
-use Rattle.svd.specs.declared.svd3x3.Svd3.{Svd3}
 
 -- ---- 3x3
 
@@ -49,15 +47,15 @@ module _ (f : Format) (a : List Float) where
   pub svd3_code : (svd_of f a).code ≡ pick (all_finite a) (pick (all_finite (numbers_of (last_of f a))) 0 7) 5
   unfolding end_of
   svd3_code =
-      rw (by_last f a) (call_code (λ (r : Svd3). r.code) (refused_svd f) (λ k. refl) a (numbers_of (last_of f a)) (answer_of f (ended_of f a)))
+      rw (by_last f a) (call_code (λ (r : SvdAnswer). r.code) (refused_svd f) (λ k. refl) a (numbers_of (last_of f a)) (answer_of f (ended_of f a)))
 
   -- a matrix of the source holds nine numbers
-  pub svd3_owed : length a ≡ 9 → Owed (λ (r : Svd3). r.code) (refused_svd f) svd3_parts a (svd_of f a)
+  pub svd3_owed : length a ≡ 9 → Owed (λ (r : SvdAnswer). r.code) (refused_svd f) svd3_parts a (svd_of f a)
   unfolding end_of
   svd3_owed n =
       let t = ended_of f a in
       rw (by_last f a)
-      (call_owed (λ (r : Svd3). r.code) (refused_svd f) (λ k. refl) a (numbers_of t.state) (answer_of f t) svd3_parts refl
+      (call_owed (λ (r : SvdAnswer). r.code) (refused_svd f) (λ k. refl) a (numbers_of t.state) (answer_of f t) svd3_parts refl
       (λ _ e. answer_full f t (last_full f a n) e))
 
 -- ---- 2x2
@@ -67,14 +65,14 @@ module _ (f : Format) (a : List Float) where
   unfolding svd2_of end2_of
   svd2_code =
       let t = sides2_of f a in
-      call_code (λ (r : Svd2). r.code) (refused_svd2 f) (λ k. refl) a (numbers2_of (factors2_of t)) (answer2_of (blind_sides f t) (factors2_of t))
+      call_code (λ (r : Svd2Answer). r.code) (refused_svd2 f) (λ k. refl) a (numbers2_of (factors2_of t)) (answer2_of (blind_sides f t) (factors2_of t))
 
-  pub svd2_owed : Owed (λ (r : Svd2). r.code) (refused_svd2 f) svd2_parts a (svd2_of f a)
+  pub svd2_owed : Owed (λ (r : Svd2Answer). r.code) (refused_svd2 f) svd2_parts a (svd2_of f a)
   unfolding svd2_of end2_of
   svd2_owed =
       let w = factors2_of (sides2_of f a) in
       let full = factors2_full (sides2_of f a) in
-      call_owed (λ (r : Svd2). r.code) (refused_svd2 f) (λ k. refl) a (numbers2_of w) (answer2_of (blind_sides f (sides2_of f a)) w) svd2_parts refl
+      call_owed (λ (r : Svd2Answer). r.code) (refused_svd2 f) (λ k. refl) a (numbers2_of w) (answer2_of (blind_sides f (sides2_of f a)) w) svd2_parts refl
       (λ _ e.
       let p = parts_finite w.values (w.carried.u ++ w.carried.v) e in
       let q = parts_finite w.carried.u w.carried.v p.1 in

@@ -4,6 +4,7 @@
 -- finite exactly where all those of the other are.
 use Rattle.float.proofs.Words.{◌≡◌, refl, sym, ap, ◌∙◌, subst, subst₂, Bool, true, not, List, ℕ, ◌*◌, length, Float, Format, neg, add}
 use Rattle.float.proofs.Words.{sub, eq}
+use Rattle.std.specs.Prelude.{Result}
 use Rattle.float.specs.Width.{F}
 use Rattle.float.specs.Constants.{zero_f, one_f}
 use Rattle.float.specs.Sign.{magnitude_of, sign_bit_of, all_finite}
@@ -11,9 +12,10 @@ use Rattle.float.proofs.Choice.{chosen, both_chosen}
 use Rattle.float.proofs.Finite.{lists_finite}
 use Rattle.float.proofs.Judged.{both_called}
 use Rattle.float.proofs.Negation.{Rel, same, negation, add_rel, neg_rel, sub_rel, mul_rel, div_rel, magnitude_rel, finite_rel}
+use Rattle.matrix.specs.Codes.{told}
 use Rattle.matrix.specs.Places.{at, negated_of}
-use Rattle.matrix.specs.Square.{exchange_of, negate_of}
-use Rattle.matrix.specs.declared.square.Mat2.{Mat2}
+use Rattle.matrix.specs.Square.{exchange_of, negate_of, Mat2}
+use Rattle.matrix.specs.declared.codes.Refusal.{Refusal}
 use Rattle.matrix.proofs.Tables.{negated-finite}
 use Rattle.matrix.proofs.Moves.{negate_finite}
 use Rattle.jacobi.specs.Rotation.{rotation_of}
@@ -24,7 +26,7 @@ use Rattle.jacobi.proofs.Negated.{blind_same, rotation_same}
 use Rattle.jacobi.proofs.Moves.{columns-finite}
 use Rattle.svd.specs.Polar.{hypot_of, symmetrised_by, polar_by, polar_of, composed, two_sided_of, blind_sides}
 use Rattle.svd.specs.Order.{Factors, signed_column, signed2_of, exchange_both, order2_of}
-use Rattle.svd.specs.Svd2x2.{turn2, sides2_of, factors2_of, refused_svd2, numbers2_of, answer2_of, end2_of, svd2_of}
+use Rattle.svd.specs.Svd2x2.{turn2, sides2_of, factors2_of, refused_svd2, numbers2_of, answer2_of, end2_of, svd2_of, Svd2Answer, whole_svd2}
 use Rattle.svd.specs.Reversed2x2.{SameCodeAndMark}
 use Rattle.svd.specs.declared.polar.Polar.{Polar}
 use Rattle.svd.specs.declared.polar.TwoSided.{TwoSided}
@@ -176,7 +178,7 @@ same_values2 f a n =
     let x = factors2_of r in
     let y = factors2_of q in
     let h = sides_alike f a in
-    both_called (λ (r q : Svd2). r.values ≡ q.values) (refused_svd2 f) a b (numbers2_of x) (numbers2_of y) (answer2_of (blind_sides f r) x)
+    both_called (λ (r q : Svd2Answer). r.values ≡ q.values) (refused_svd2 f) a b (numbers2_of x) (numbers2_of y) (answer2_of (blind_sides f r) x)
     (answer2_of (blind_sides f q) y) (negated-finite 4 a n) (numbers_alike r q h)
     (λ _. ap (λ (w : Ranked (List Float)). w.values) (right_same h)) (λ k l. refl)
 
@@ -184,5 +186,6 @@ same_values2 f a n =
 
 -- A matrix of the source holds four numbers. Here its numbers are a list, so their count is a premise.
 pub reversed2_wiring : (a b : Mat2) → length a.«data» ≡ 4 → b.«data» ≡ negated_of 4 a.«data»
-    → (r q : Svd2) → svd.Post tt (a, tt) r (a, tt) → svd.Post tt (b, tt) q (b, tt) → SameCodeAndMark r q
+    → (r q : Result Svd2 Refusal) → svd.Post tt (a, tt) r (a, tt) → svd.Post tt (b, tt) q (b, tt)
+    → SameCodeAndMark (told (refused_svd2 F) whole_svd2 r) (told (refused_svd2 F) whole_svd2 q)
 reversed2_wiring a b h e r q p s = subst₂ SameCodeAndMark (sym p) (sym (s ∙ ap (svd2_of F) e)) (reversed2 F a.«data» h)

@@ -1,16 +1,20 @@
 -- Any two answers within the promise of a public function are equal. Each promise is read from the source, as a caller reads it.
-use Rattle.float.proofs.Words.{Float}
+use Rattle.std.specs.Prelude.{Result}
+use Rattle.float.proofs.Words.{refl, sym, ap, ◌∙◌, Float}
+use Rattle.float.specs.Width.{F}
 use Rattle.float.specs.OneAnswer.{OneAnswer}
 use Rattle.float.proofs.OneAnswer.{named}
-use Rattle.matrix.specs.declared.square.Mat2.{Mat2}
-use Rattle.matrix.specs.declared.square.Mat3.{Mat3}
+use Rattle.matrix.specs.declared.codes.Refusal.{Refusal}
+use Rattle.matrix.specs.Square.{Mat2, Mat3}
+use Rattle.matrix.proofs.Refusals.{told_by_code}
 use Rattle.jacobi.specs.declared.pairs.Pair.{Pair}
 use Rattle.jacobi.specs.declared.pairs.OffDiag.{OffDiag}
 use Rattle.svd.specs.declared.polar.Polar.{Polar}
 use Rattle.svd.specs.declared.polar.TwoSided.{TwoSided}
-use Rattle.svd.specs.declared.order.Factors2.{Factors2}
-use Rattle.svd.specs.declared.order.Factors3.{Factors3}
+use Rattle.svd.specs.Order.{Factors2, Factors3}
+use Rattle.svd.specs.Svd2x2.{Svd2Answer, whole_svd2, refused_svd2}
 use Rattle.svd.specs.declared.svd2x2.Svd2.{Svd2}
+use Rattle.svd.specs.Svd3x3.{SvdAnswer, whole_svd, refused_svd}
 use Rattle.svd.specs.declared.svd3x3.Svd3.{Svd3}
 use Rattle.svd.proofs.polar.hypot_fast.Reads as hypot-fast
 use Rattle.svd.proofs.polar.compute_polar_2x2.Reads as compute-polar-2x2
@@ -48,8 +52,18 @@ pub one_set_order_and_signs_2x2 : (a b : Float) (u v : Mat2)
     → OneAnswer (λ (r : Factors2). set-order-and-signs-2x2.Post tt (a, (b, (u, (v, tt)))) r (a, (b, (u, (v, tt)))))
 one_set_order_and_signs_2x2 a b u v = named _
 
-pub one_svd2x2_svd : (a : Mat2) → OneAnswer (λ (r : Svd2). svd2x2-svd.Post tt (a, tt) r (a, tt))
-one_svd2x2_svd a = named _
+pub one_svd2x2_svd : (a : Mat2) → OneAnswer (λ (r : Result Svd2 Refusal). svd2x2-svd.Post tt (a, tt) r (a, tt))
+one_svd2x2_svd a r q p s =
+    told_by_code (λ (x : Svd2Answer). x.code) (refused_svd2 F) whole_svd2 (λ k. refl) (λ x. refl)
+    (λ x y e. ap (λ (z : Svd2Answer). svd2_of z) e) r q (p ∙ sym s)
+  where
+    svd2_of : Svd2Answer → Svd2
+    svd2_of z = record { settled = z.settled; values = z.values; u = z.u; v = z.v }
 
-pub one_svd3x3_svd : (a : Mat3) → OneAnswer (λ (r : Svd3). svd3x3-svd.Post tt (a, tt) r (a, tt))
-one_svd3x3_svd a = named _
+pub one_svd3x3_svd : (a : Mat3) → OneAnswer (λ (r : Result Svd3 Refusal). svd3x3-svd.Post tt (a, tt) r (a, tt))
+one_svd3x3_svd a r q p s =
+    told_by_code (λ (x : SvdAnswer). x.code) (refused_svd F) whole_svd (λ k. refl) (λ x. refl)
+    (λ x y e. ap (λ (z : SvdAnswer). svd3_of z) e) r q (p ∙ sym s)
+  where
+    svd3_of : SvdAnswer → Svd3
+    svd3_of z = record { made = z.made; settled = z.settled; values = z.values; u = z.u; v = z.v; worked = z.worked }

@@ -1,11 +1,11 @@
 -- Singular values: signs go to the columns of U, then both U and V are put in descending order of the values. Definitions only.
-use Rattle.std.specs.Prelude.{List, [], ◌∷◌, ℕ, Float}
+use Rattle.std.specs.Prelude.{List, [], ◌∷◌, ℕ, set, Float}
 use Rattle.float.specs.Choice.{pick}
 use Rattle.float.specs.Sign.{magnitude_of, sign_bit_of}
-use Rattle.matrix.specs.Square.{mat2, mat3, negate_of, exchange_of}
+use Rattle.matrix.specs.Places.{IsSquare, at}
+use Rattle.matrix.specs.Square.{square_with, negate_of, exchange_of}
 use Rattle.jacobi.specs.Order.{Ranked, ordered, ordered3, descending}
-use Rattle.svd.specs.declared.order.Factors3.{Factors3}
-use Rattle.svd.specs.declared.order.Factors2.{Factors2}
+use Rattle.svd.specs.declared.order.Decomposed.{Decomposed}
 
 -- the columns of U and V that belong to the values
 pub record Columns : Type 0 where
@@ -15,22 +15,37 @@ pub record Columns : Type 0 where
 abbrev pub Factors : Type 0
 Factors = Ranked Columns
 
-abbrev pub factors3 : Factors → Factors3
-factors3 w = record { values = w.values; u = mat3 w.carried.u; v = mat3 w.carried.v }
+-- ---- the structs
 
-abbrev pub of_factors3 : Factors3 → Factors
-of_factors3 w = record { values = w.values; carried = record { u = w.u.«data»; v = w.v.«data» } }
+abbrev pub Factors2 : Type 0
+Factors2 = Decomposed 2 4
+
+abbrev pub Factors3 : Type 0
+Factors3 = Decomposed 3 9
+
+abbrev pub factors_with : {n s : ℕ} → IsSquare n s → Factors → Decomposed n s
+factors_with p w = record { values = w.values; u = square_with p w.carried.u; v = square_with p w.carried.v }
+
+abbrev pub of_factors : {n s : ℕ} → Decomposed n s → Factors
+of_factors w = record { values = w.values; carried = record { u = w.u.«data»; v = w.v.«data» } }
 
 abbrev pub factors2 : Factors → Factors2
-factors2 w = record { values = w.values; u = mat2 w.carried.u; v = mat2 w.carried.v }
+factors2 w = factors_with {n = 2} {s = 4} tt w
 
-abbrev pub of_factors2 : Factors2 → Factors
-of_factors2 w = record { values = w.values; carried = record { u = w.u.«data»; v = w.v.«data» } }
+abbrev pub factors3 : Factors → Factors3
+factors3 w = factors_with {n = 3} {s = 9} tt w
 
 -- ---- signs: column i of a matrix of size n changes sign where x has its sign bit set, -0 too
 
 unfoldable pub signed_column : ℕ → ℕ → Float → List Float → List Float
 signed_column n i x u = pick (sign_bit_of x) (negate_of n i u) u
+
+-- the value at i by its magnitude, and U with its sign
+abbrev pub signed_at : {n s : ℕ} → IsSquare n s → ℕ → Factors → Decomposed n s
+signed_at {n} p i w = factors_with p (record {
+  values = set w.values i (magnitude_of (at w.values i));
+  carried = record { u = signed_column n i (at w.values i) w.carried.u; v = w.carried.v };
+})
 
 -- the magnitudes, and U with their signs
 abbrev pub signed3_of : Float → Float → Float → List Float → List Float → Factors

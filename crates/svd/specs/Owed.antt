@@ -1,10 +1,10 @@
 -- The numbers of an answer, field by field, with how many each has. Definitions only.
 use Rattle.std.specs.Prelude.{List, [], ◌∷◌}
 use Rattle.matrix.specs.Owed.{Part}
-use Rattle.svd.specs.declared.svd2x2.Svd2.{Svd2}
-use Rattle.svd.specs.declared.svd3x3.Svd3.{Svd3}
+use Rattle.svd.specs.Svd2x2.{Svd2Answer}
+use Rattle.svd.specs.Svd3x3.{SvdAnswer}
 
-abbrev pub svd3_parts : Svd3 → List Part
+abbrev pub svd3_parts : SvdAnswer → List Part
 svd3_parts r =
     record { size = 3; numbers = r.values }
     ∷ record { size = 9; numbers = r.u.«data» }
@@ -12,5 +12,5 @@ svd3_parts r =
     ∷ record { size = 9; numbers = r.worked.«data» }
     ∷ []
 
-abbrev pub svd2_parts : Svd2 → List Part
+abbrev pub svd2_parts : Svd2Answer → List Part
 svd2_parts r = record { size = 2; numbers = r.values } ∷ record { size = 4; numbers = r.u.«data» } ∷ record { size = 4; numbers = r.v.«data» } ∷ []

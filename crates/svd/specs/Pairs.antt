@@ -10,7 +10,7 @@ use Rattle.jacobi.specs.declared.pairs.Pair.{Pair}
 use Rattle.jacobi.specs.declared.pairs.Pair.TheVariants.{P12, P13, P23}
 use Rattle.jacobi.specs.declared.pairs.OffDiag.{OffDiag}
 use Rattle.svd.specs.Polar.{two_sided_of, blind_sides}
-use Rattle.svd.specs.declared.pairs.Elements.{Elements}
+use Rattle.svd.specs.declared.polar.Elements.{Elements}
 use Rattle.svd.specs.declared.polar.TwoSided.{TwoSided}
 
 -- the number at (i, j)

@@ -4,11 +4,23 @@ use Rattle.std.specs.Float.{Format}
 use Rattle.std.specs.Float.Ieee.{neg}
 use Rattle.float.specs.Judged.{judged_call}
 use Rattle.matrix.specs.Places.{zeros, at}
-use Rattle.matrix.specs.Square.{mat2}
+use Rattle.matrix.specs.Square.{mat2, Mat2}
 use Rattle.svd.specs.Polar.{two_sided_of, blind_sides}
 use Rattle.svd.specs.Order.{Factors, order2_of}
 use Rattle.svd.specs.declared.polar.TwoSided.{TwoSided}
 use Rattle.svd.specs.declared.svd2x2.Svd2.{Svd2}
+
+-- the answer of a call, with its code
+pub record Svd2Answer : Type 0 where
+  pub code : ℕ
+  pub settled : Bool
+  pub values : List Float
+  pub u : Mat2
+  pub v : Mat2
+
+-- what a call that is not refused hands out
+abbrev pub whole_svd2 : Svd2 → Svd2Answer
+whole_svd2 x = record { code = 0; settled = x.settled; values = x.values; u = x.u; v = x.v }
 
 -- the turn by cosine c and sine s as columns (c, -s) and (s, c)
 abbrev pub turn2 : Float → Float → List Float
@@ -23,7 +35,7 @@ factors2_of r = order2_of r.d1 r.d2 (turn2 r.cl r.sl) (turn2 r.cr r.sr)
 
 -- ---- the answer
 
-abbrev pub refused_svd2 : Format → ℕ → Svd2
+abbrev pub refused_svd2 : Format → ℕ → Svd2Answer
 refused_svd2 f k = record { code = k; settled = false; values = zeros f 2; u = mat2 (zeros f 4); v = mat2 (zeros f 4) }
 
 -- the numbers worked out: the values, U and V
@@ -31,12 +43,12 @@ abbrev pub numbers2_of : Factors → List Float
 numbers2_of w = w.values ++ (w.carried.u ++ w.carried.v)
 
 -- the mark: its rotation is not blind
-abbrev pub answer2_of : Bool → Factors → Svd2
+abbrev pub answer2_of : Bool → Factors → Svd2Answer
 answer2_of blind w = record { code = 0; settled = not blind; values = w.values; u = mat2 w.carried.u; v = mat2 w.carried.v }
 
 -- the answer to a, whose factors are w
-unfoldable pub end2_of : Format → List Float → Bool → Factors → Svd2
+unfoldable pub end2_of : Format → List Float → Bool → Factors → Svd2Answer
 end2_of f a blind w = judged_call (refused_svd2 f) a (numbers2_of w) (answer2_of blind w)
 
-unfoldable pub svd2_of : Format → List Float → Svd2
+unfoldable pub svd2_of : Format → List Float → Svd2Answer
 svd2_of f a = let r = sides2_of f a in end2_of f a (blind_sides f r) (factors2_of r)

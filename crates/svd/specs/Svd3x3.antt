@@ -5,10 +5,10 @@ use Rattle.std.specs.Float.Ieee.{lt}
 use Rattle.float.specs.Constants.{limit_f}
 use Rattle.float.specs.Judged.{judged_call}
 use Rattle.matrix.specs.Places.{zeros}
-use Rattle.matrix.specs.Square.{mat3, identity_of}
+use Rattle.matrix.specs.Square.{mat3, identity_of, Mat3}
 use Rattle.jacobi.specs.Pairs.{turned_of}
 use Rattle.jacobi.specs.Run.{run, nothing_made, one_more}
-use Rattle.jacobi.specs.Blind.{marked, Watched, watched_run, sighted}
+use Rattle.jacobi.specs.Blind.{marked, Watched, watched_step, watched_run, sighted}
 use Rattle.jacobi.specs.declared.made.Made.{Made}
 use Rattle.svd.specs.Pairs.{entry, off_diag_of, pair_of, chosen_of, blind_at, applied_of}
 use Rattle.svd.specs.Order.{Factors, order_of}
@@ -56,7 +56,10 @@ start_of f a = record { matrix = a; u = identity_of f 3; v = identity_of f 3; ma
 abbrev pub last_of : Format → List Float → State
 last_of f a = run_of f 25 (start_of f a)
 
--- the same run, watched
+-- the same step and the same run, watched
+abbrev pub watched_step_of : Format → Watched State → Watched State
+watched_step_of f = watched_step (step_of f) (λ (s : State). settled_of f s.matrix) (λ (s : State). blind_at f s.matrix)
+
 unfoldable pub watched_of : Format → ℕ → Watched State → Watched State
 watched_of f k w = watched_run (step_of f) (λ (s : State). settled_of f s.matrix) (λ (s : State). blind_at f s.matrix) k w
 
@@ -65,8 +68,22 @@ watched_last_of f a = watched_of f 25 (sighted (start_of f a))
 
 -- ---- the answer
 
+-- of a call, with its code
+pub record SvdAnswer : Type 0 where
+  pub code : ℕ
+  pub made : Made
+  pub settled : Bool
+  pub values : List Float
+  pub u : Mat3
+  pub v : Mat3
+  pub worked : Mat3
+
+-- what a call that is not refused hands out
+abbrev pub whole_svd : Svd3 → SvdAnswer
+whole_svd x = record { code = 0; made = x.made; settled = x.settled; values = x.values; u = x.u; v = x.v; worked = x.worked }
+
 -- refused: all numbers +0, no rotation, not settled
-abbrev pub refused_svd : Format → ℕ → Svd3
+abbrev pub refused_svd : Format → ℕ → SvdAnswer
 refused_svd f k = record {
   code = k;
   made = nothing_made;
@@ -84,7 +101,7 @@ factors_of s = order_of (entry s.matrix 0 0) (entry s.matrix 1 1) (entry s.matri
 abbrev pub numbers_of : State → List Float
 numbers_of s = s.matrix ++ ((factors_of s).carried.u ++ (factors_of s).carried.v)
 
-abbrev pub answer_of : Format → Watched State → Svd3
+abbrev pub answer_of : Format → Watched State → SvdAnswer
 answer_of f w = record {
   code = 0;
   made = w.state.made;
@@ -96,8 +113,8 @@ answer_of f w = record {
 }
 
 -- the answer to a, whose run ended in w
-unfoldable pub end_of : Format → List Float → Watched State → Svd3
+unfoldable pub end_of : Format → List Float → Watched State → SvdAnswer
 end_of f a w = judged_call (refused_svd f) a (numbers_of w.state) (answer_of f w)
 
-unfoldable pub svd_of : Format → List Float → Svd3
+unfoldable pub svd_of : Format → List Float → SvdAnswer
 svd_of f a = end_of f a (watched_last_of f a)

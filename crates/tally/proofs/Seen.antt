@@ -14,8 +14,7 @@ use Rattle.counts.specs.Tally.{Tally, tally_of, empty_tally, plus_of, all_fit, w
 use Rattle.counts.proofs.Sums.{part_past}
 use Rattle.counts.proofs.Cut.{cut}
 use Rattle.counts.proofs.Files.{tally_length, no_tally}
-use Rattle.tally.specs.declared.decide.State.{State}
-use Rattle.tally.specs.States.{after_count, at_end}
+use Rattle.tally.specs.States.{State, after_count, at_end}
 use Rattle.tally.specs.Rounds.{whole_part, Counted, LastCounted, Followed, came_of, Reached, first, round, Finished}
 use Rattle.tally.specs.Told.{Counts}
 

@@ -4,11 +4,8 @@ use Rattle.float.proofs.Words.{take-append_seam, length-append, false≢true}
 use Rattle.float.specs.Choice.{pick}
 use Rattle.float.proofs.Choice.{by_test}
 use Rattle.counts.specs.Cells.{tally_size}
-use Rattle.listing.specs.declared.page.Listed.{Listed}
-use Rattle.listing.specs.Page.{listing_of, listing_most, Written, refused_listing, written_of, Wrote}
-use Rattle.tally.specs.declared.decide.End.{End}
-use Rattle.tally.specs.declared.decide.End.TheVariants.{CountTooLarge}
-use Rattle.tally.specs.States.{after_listing}
+use Rattle.listing.specs.Page.{Listed, listing_of, listing_most, Written, refused_listing, written_of, Wrote}
+use Rattle.tally.specs.States.{End, CountTooLarge, after_listing}
 use Rattle.tally.specs.Given.{totals_fit, Shown}
 
 abbrev whole : List ℕ → List ℕ → Written

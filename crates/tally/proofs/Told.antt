@@ -1,12 +1,13 @@
 -- The listing is that of the counts, and these are the tally of all that was seen. Where there is none, the program ends as the reading did, or a total
 -- is too large.
 use Rattle.float.proofs.Words.{subst, subst⁻¹, List, ℕ, inl, inr, Format, length, ltb}
+use Rattle.std.specs.Prelude.{Result}
 use Rattle.float.specs.Width.{F}
 use Rattle.float.proofs.Choice.{by_test}
 use Rattle.counts.specs.Tally.{tally_of}
 use Rattle.listing.specs.Page.{listing_of}
-use Rattle.tally.specs.declared.decide.End.{End}
-use Rattle.tally.specs.declared.decide.End.TheVariants.{Well, CannotRead, CannotWrite, CountTooLarge, TooManyReads}
+use Rattle.tally.specs.States.{End, Well, CannotRead, CannotWrite, CountTooLarge, TooManyReads, ending}
+use Rattle.tally.specs.declared.decide.Failure.{Failure}
 use Rattle.tally.specs.Given.{totals_fit, Shown, Given, Tallied}
 use Rattle.tally.specs.Told.{Counts, Tells}
 use Rattle.tally.proofs.Seen.{finished_counts}
@@ -34,5 +35,5 @@ pub told : (f : Format) (out : List ℕ) (e : End) (t : Tallied f out e) → Tel
 told f out e t = given f t.finished.seen out t.state.end t.counts e (finished_counts f t.counts t.state t.finished) t.given
 
 -- the same of the call, by its promise as the source states it
-pub told_call : (κs : Lfts 3) (a : _) (e : End) (s : _) (t : tally.Post κs a e s) → Tells F e t.finished.seen s.1.1.1.1.0.now
-told_call κs a e s t = told F s.1.1.1.1.0.now e t
+pub told_call : (κs : Lfts 2) (a : _) (r : Result Unit Failure) (s : _) (t : tally.Post κs a r s) → Tells F (ending r) t.finished.seen s.1.1.1.0.now
+told_call κs a r s t = told F s.1.1.1.0.now (ending r) t

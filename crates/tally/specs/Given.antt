@@ -4,10 +4,7 @@ use Rattle.std.specs.Float.{Format}
 use Rattle.float.specs.Choice.{pick}
 use Rattle.counts.specs.Tally.{all_fit}
 use Rattle.listing.specs.Page.{listing_of, totals_of, records_in}
-use Rattle.tally.specs.declared.decide.End.{End}
-use Rattle.tally.specs.declared.decide.End.TheVariants.{Well, CannotRead, CannotWrite, CountTooLarge, TooManyReads}
-use Rattle.tally.specs.declared.decide.State.{State}
-use Rattle.tally.specs.States.{after_listing}
+use Rattle.tally.specs.States.{End, Well, CannotRead, CannotWrite, CountTooLarge, TooManyReads, State, after_listing}
 use Rattle.tally.specs.Rounds.{Finished}
 
 -- a text that may be written to standard output: a whole listing

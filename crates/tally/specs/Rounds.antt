@@ -7,10 +7,8 @@ use Rattle.stdio.specs.Calls.{ReadBehind}
 use Rattle.stdio.specs.Kept.{whole_of, rest_of}
 use Rattle.record.specs.Layout.{answer_size}
 use Rattle.counts.specs.Tally.{empty_tally, with_file}
-use Rattle.tally.specs.declared.decide.End.TheVariants.{CannotRead}
-use Rattle.tally.specs.declared.decide.State.{State}
+use Rattle.tally.specs.States.{CannotRead, State, start_of, go_on, stop_of, after_count, at_end}
 use Rattle.tally.specs.Buffers.{room}
-use Rattle.tally.specs.States.{start_of, go_on, stop_of, after_count, at_end}
 
 -- the bytes of the whole records among s
 abbrev pub whole_part : Format → List ℕ → List ℕ

@@ -3,8 +3,7 @@ use Rattle.std.specs.Prelude.{◌≡◌, false, List, ◌⊎◌, ℕ, length, ta
 use Rattle.std.specs.Float.{Format}
 use Rattle.counts.specs.Tally.{tally_of, all_fit}
 use Rattle.listing.specs.Page.{listing_of}
-use Rattle.tally.specs.declared.decide.End.{End}
-use Rattle.tally.specs.declared.decide.End.TheVariants.{Well, CannotRead, CannotWrite, CountTooLarge, TooManyReads}
+use Rattle.tally.specs.States.{End, Well, CannotRead, CannotWrite, CountTooLarge, TooManyReads}
 use Rattle.tally.specs.Given.{totals_fit}
 
 -- the end of the reading: the counts are the tally of the bytes, or a count of that passes 64 bits

@@ -8,129 +8,129 @@
 mod calls;
 mod decide;
 
-ghost use Rattle.std.specs.Prelude.{◌-◌, ◌≤◌, ◌<◌, take};
+ghost use Rattle.std.specs.Prelude.{ℕ, ◌-◌, ◌≤◌, ◌<◌, take};
 ghost use Rattle.float.specs.Width.{F};
 ghost use Rattle.stdio.specs.Calls.{AtMost};
-ghost use Rattle.tally.specs.Buffers.{Large, Table, room};
-ghost use Rattle.tally.specs.States.{Ready};
+ghost use Rattle.tally.specs.Buffers.{room};
+ghost use Rattle.tally.specs.States.{standing, going, stopping, followed, ending, Ready};
 ghost use Rattle.tally.specs.Rounds.{Counted, LastCounted, Followed, Finished};
-ghost use Rattle.tally.specs.Given.{Shown, Given, Tallied};
+ghost use Rattle.tally.specs.Given.{Shown, Tallied};
 
-use crate::calls::{put, read, say};
-use crate::decide::{End, State, after_count, after_listing, at_end, go_on, start, stop};
+use crate::calls::{put, read};
+use crate::decide::{Failure, after_listing};
 use counts::cells::TALLY_SIZE;
 use counts::tally::{zanikory_tally_clear, zanikory_tally_file};
 use listing::page::listing;
-use matrix::codes::DONE;
 use record::layout::ANSWER_SIZE;
 use std::io::{Stdin, Stdout};
-use stdio::{Outcome, keep_rest};
+use std::ops::ControlFlow;
+use stdio::{MOST_CALLS, Outcome, keep_rest};
+
+// The bytes of a large buffer.
+pub(crate) const LARGE: usize = 65536;
 
 // The bytes of as many answers as a large buffer holds.
-pub(crate) const ROOM: usize = 65536 / ANSWER_SIZE * ANSWER_SIZE;
+pub(crate) const ROOM: usize = LARGE / ANSWER_SIZE * ANSWER_SIZE;
 
-// Counts the whole records among the first `total` bytes, and keeps the rest.
-fn serve(buf: &mut [u8], counts: &mut [u64], s: State, total: usize) -> State
-    requires { Large buf.old × Table counts.old × (0 < s.rounds) × (total ≤ room F) }
-    ensures { Counted F (take total buf.old) buf.new counts.old counts.new s result }
-{
-    let from = ANSWER_SIZE * (total / ANSWER_SIZE);
-    let code = zanikory_tally_file(counts, &buf[..from]);
-    let kept = total - from;
-    keep_rest(buf, from, kept);
-    after_count(s, code, kept)
+// The answers at hand, how many bytes of them are kept for the next round, and the counts of those before. That these are less than a record
+// (`Ready`) is no ghost field: a struct that has one cannot lend two of its fields at once.
+#[derive(Drop)]
+struct Desk {
+    answers: [u8; LARGE],
+    kept: usize,
+    counts: [u64; TALLY_SIZE],
 }
 
-// The end of the input. A part of a record that is kept is bytes left over.
-fn serve_last(buf: &[u8], counts: &mut [u64], s: State) -> State
-    requires { Large buf.now × Table counts.old × Ready F s }
-    ensures { LastCounted F (take s.kept buf.now) counts.old counts.new result }
-{
-    let have = s.kept;
-    let code = zanikory_tally_file(counts, &buf[..have]);
-    at_end(code)
-}
-
-// What follows a read that ended so.
-fn follow(o: Outcome, buf: &mut [u8], counts: &mut [u64], s: State) -> State
-    requires { Large buf.old × Table counts.old × Ready F s × (0 < s.rounds) × AtMost (room F - s.kept) o }
-    ensures { Followed F o buf.old buf.new counts.old counts.new s result }
-{
-    match o {
-        Outcome::Bytes(n) => serve(buf, counts, s, s.kept + n),
-        Outcome::Nothing => serve_last(buf, counts, s),
-        Outcome::Interrupted => go_on(s, s.kept),
-        Outcome::Failed => stop(End::CannotRead),
+impl Desk {
+    // Counts the whole records among the first `total` bytes, and keeps the rest.
+    fn serve(&mut self, total: usize) -> Result<(), Failure>
+        requires { total ≤ room F }
+        ensures { (rounds : ℕ) → Counted F (take total self.old.answers) self.new.answers self.old.counts self.new.counts
+            (standing rounds self.old.kept) (going rounds self.new.kept result) }
+    {
+        let from = ANSWER_SIZE * (total / ANSWER_SIZE);
+        let counted = zanikory_tally_file(&mut self.counts, &self.answers[..from]);
+        keep_rest(&mut self.answers, from, total - from);
+        counted?;
+        self.kept = total - from;
+        Ok(())
     }
-}
 
-// Reads and counts, until no round follows.
-fn serve_input(input: Stdin, buf: &mut [u8], counts: &mut [u64]) -> State
-    requires { Large buf.old × Table counts.old }
-    ensures { Finished F counts.new result }
-{
-    zanikory_tally_clear(counts);
-    let mut s = start();
-    while s.rounds > 0 {
-        let o = read(input, buf, s.kept);
-        s = follow(o, buf, counts, s);
+    // The end of the input. A part of a record that is kept is bytes left over.
+    fn serve_last(&mut self) -> Result<(), Failure>
+        requires { Ready F (standing 1 self.old.kept) }
+        ensures { LastCounted F (take self.old.kept self.old.answers) self.old.counts self.new.counts (stopping self.new.kept result) }
+    {
+        zanikory_tally_file(&mut self.counts, &self.answers[..self.kept])?;
+        Ok(())
     }
-    s
+
+    // What follows a read that ended so: another, or the end.
+    fn follow(&mut self, o: Outcome) -> Result<ControlFlow<()>, Failure>
+        requires { Ready F (standing 1 self.old.kept) × AtMost (room F - self.old.kept) o }
+        ensures { (rounds : ℕ) → Followed F o self.old.answers self.new.answers self.old.counts self.new.counts
+            (standing rounds self.old.kept) (followed rounds self.new.kept result) }
+    {
+        match o {
+            Outcome::Bytes(n) => self.serve(self.kept + n)?,
+            Outcome::Interrupted => {},
+            Outcome::Nothing => {
+                self.serve_last()?;
+                return Ok(ControlFlow::Break(()));
+            },
+            Outcome::Failed => return Err(Failure::CannotRead),
+        }
+        Ok(ControlFlow::Continue(()))
+    }
+
+    // Reads and counts, until no round follows.
+    fn serve_input(&mut self, input: Stdin) -> Result<(), Failure>
+        ensures { Finished F self.new.counts (stopping self.new.kept result) }
+    {
+        zanikory_tally_clear(&mut self.counts).unwrap();
+        self.kept = 0;
+        for _round in 0..MOST_CALLS {
+            let o = read(input, &mut self.answers, self.kept);
+            match self.follow(o)? {
+                ControlFlow::Continue(()) => {},
+                ControlFlow::Break(()) => return Ok(()),
+            }
+        }
+        Err(Failure::TooManyReads)
+    }
 }
 
 // Writes the listing of all that was counted.
-fn list(output: Stdout, counts: &[u64], out: &mut [u8]) -> End
-    requires { Table counts.now × Large out.old }
-    ensures { Shown counts.now out.new result }
+fn list(output: Stdout, counts: &[u64; TALLY_SIZE], out: &mut [u8; LARGE]) -> Result<(), Failure>
+    ensures { Shown counts.now out.new (ending result) }
 {
-    let l = listing(counts, out);
-    let size = l.size;
-    if l.code == DONE {
-        let w = put(output, &out[..size]);
-        return after_listing(w.written, size);
-    }
-    End::CountTooLarge
+    let size = listing(counts, out)?;
+    let w = put(output, &out[..size]);
+    after_listing(w.written, size)
 }
 
-// The listing, where the input was counted to its end.
-fn give(output: Stdout, end: End, counts: &[u64], out: &mut [u8]) -> End
-    requires { Table counts.now × Large out.old }
-    ensures { Given end counts.now out.new result }
+// From the first read to the last write: the listing, where the input was counted to its end.
+fn tally(
+    input: Stdin,
+    output: Stdout,
+    desk: &mut Desk,
+    out: &mut [u8; LARGE],
+) -> Result<(), Failure>
+    ensures { Tallied F out.new (ending result) }
 {
-    match end {
-        End::Well => list(output, counts, out),
-        End::CannotRead => End::CannotRead,
-        End::CannotWrite => End::CannotWrite,
-        End::CountTooLarge => End::CountTooLarge,
-        End::TooManyReads => End::TooManyReads,
-    }
-}
-
-// From the first read to the last write.
-fn tally(input: Stdin, output: Stdout, buf: &mut [u8], counts: &mut [u64], out: &mut [u8]) -> End
-    requires { Large buf.old × Table counts.old × Large out.old }
-    ensures { Tallied F out.new result }
-{
-    let s = serve_input(input, buf, counts);
-    let end = s.end;
-    give(output, end, counts, out)
-}
-
-// What failed, if anything did.
-fn tell(rt: HostRuntime, end: End) {
-    match end {
-        End::Well => {},
-        End::CannotRead => say(rt, "tally: cannot read"),
-        End::CannotWrite => say(rt, "tally: cannot write"),
-        End::CountTooLarge => say(rt, "tally: a count passes 64 bits (14)"),
-        End::TooManyReads => say(rt, "tally: too many reads"),
-    }
+    desk.serve_input(input)?;
+    list(output, &desk.counts, out)
 }
 
 fn main(rt: HostRuntime) {
-    let mut buf = io::large_buffer();
+    let mut desk = Desk {
+        answers: io::large_buffer(),
+        kept: 0,
+        counts: [0; TALLY_SIZE],
+    };
     let mut out = io::large_buffer();
-    let mut counts = [0u64; TALLY_SIZE];
-    let end = tally(rt.stdin(), rt.stdout(), &mut buf, &mut counts, &mut out);
-    tell(rt, end);
+    if let Err(failure) = tally(rt.stdin(), rt.stdout(), &mut desk, &mut out) {
+        // Where that cannot be said either, nothing is left to do.
+        let _ = eprintln!(rt; "tally: {failure}");
+    }
 }

@@ -1,13 +1,12 @@
 -- Parts of a list of bytes: the first byte of one, a part that goes past the end, bytes stored in the place of others, and parts one after the other.
-use Rattle.float.proofs.Words.{◌≡◌, sym, ◌∙◌, List, [], ◌∷◌, ◌++◌, ℕ, suc, ◌+◌, ◌-◌, ◌*◌, ◌≤◌, ◌<◌, mul-suc, arith, add-one, add-zero, length, get_or, take}
+use Rattle.float.proofs.Words.{◌≡◌, refl, sym, ◌∙◌, Bool, true, false, List, [], ◌∷◌, ◌++◌, append_assoc, ℕ, suc, ◌+◌, ◌-◌, ◌*◌, ◌≤◌, ◌<◌, mul-suc, arith}
+use Rattle.float.proofs.Words.{add-one, add-zero, length, take}
 use Rattle.float.proofs.Words.{drop}
-use Rattle.float.proofs.Words.{set, length-take, length-drop, length-append, take_all, take_at, drop_at, drop-cons, drop-drop, sets, sets-eq, le-leb, lt-leb}
+use Rattle.float.proofs.Words.{set, length-take, length-drop, length-append, take_all, take_at, drop_at, drop-drop, sets, sets-eq, le-leb, lt-leb, ltb}
+use Rattle.float.proofs.Words.{ltb-true, ltb-false, min, le_of_lt}
 use lib.Seq.{length-sets, take-append-le, drop-append-le}
+use Rattle.std.proofs.lemmas.List.{drop_all}
 use Rattle.wire.specs.Bytes.{part, placed_of}
-
--- a part begins with its first byte
-pub part_more : (a n m : ℕ) (s : List ℕ) → a < length s → n ≡ m + 1 → part a n s ≡ get_or s a 0 ∷ part (a + 1) m s
-part_more a n m s h e = rw (e, add-one, add-one, drop-cons s a 0)
 
 -- a part that ends with the list is the one that goes on behind it
 pub part_past : (a n m : ℕ) (s : List ℕ) → length s - a ≤ n → length s - a ≤ m → part a n s ≡ part a m s
@@ -28,12 +27,6 @@ sets_append l i [] y = rw (add-zero i)
 sets_append l i (b ∷ x) y =
     let e : i + suc (length x) ≡ suc i + length x = omega arith in
     rw e (sets_append (set l i b) (suc i) x y)
-
--- a byte of x stored, and the others of x behind it
-pub sets_more : (l x : List ℕ) (at i : ℕ) → i < length x → sets (set l (at + i) (get_or x i 0)) (at + (i + 1)) (drop (i + 1) x) ≡ sets l (at + i) (drop i x)
-sets_more l x at i h =
-    let next : at + (i + 1) ≡ suc (at + i) = omega arith in
-    rw (next, add-one, drop-cons x i 0 h)
 
 pub placed_stored : (a : ℕ) (x s : List ℕ) → a + length x ≤ length s → sets s a x ≡ placed_of a x s
 unfolding placed_of
@@ -69,3 +62,21 @@ front_more first out' out x n i w v e = rw (add-one, mul-suc, w, v, e)
 pub rest_more : (out' out out₀ : List ℕ) (n i : ℕ) → drop (n * i + n) out' ≡ drop (n * i + n) out → drop (n * i) out ≡ drop (n * i) out₀
     → drop (n * (i + 1)) out' ≡ drop (n * (i + 1)) out₀
 rest_more out' out out₀ n i w v = rw (add-one, mul-suc, w, ← drop-drop n (n * i) out, ← drop-drop n (n * i) out₀, v)
+
+-- a part of k bytes exchanged for x, of as many
+pub exchanged : (a k : ℕ) (s x : List ℕ) → length x ≡ k → a + k ≤ length s → take a s ++ (x ++ drop k (drop a s)) ≡ sets s a x
+exchanged a k s x e h = rw (drop-drop k a s, ← e, ← append_assoc) (sym (sets-eq x s a (omega arith)))
+
+-- what a slice has from a place on that may be past its end, where it is no longer than n
+pub part_short : (a n : ℕ) (s : List ℕ) → length s - a ≤ n → take (length s - min a (length s)) (drop (min a (length s)) s) ≡ part a n s
+part_short a n s h = by (ltb (length s) a) refl
+  where
+    by : (t : Bool) → ltb (length s) a ≡ t → take (length s - min a (length s)) (drop (min a (length s)) s) ≡ part a n s
+    by true e =
+        let l = ltb-true (length s) a e in
+        let m : length s - min a (length s) ≡ 0 = omega arith in
+        rw (m, drop_all a s (le_of_lt l)) (sym (take_all n [] (omega arith)))
+    by false e =
+        let l = ltb-false (length s) a e in
+        let m : min a (length s) ≡ a = omega arith in
+        rw m (part_past a (length s - a) n s (omega arith) h)

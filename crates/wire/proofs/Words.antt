@@ -1,27 +1,9 @@
 -- Words and their bytes, over the width.
-use Rattle.float.proofs.Words.{◌≡◌, refl, sym, ap, ◌∙◌, List, [], ◌∷◌, ℕ, zero, suc, ◌+◌, ◌*◌, ◌/◌, ◌%◌, ◌^◌, ◌≤◌, ◌<◌, pow-zero, pow-suc}
-use Rattle.float.proofs.Words.{pow-le-pow_right, arith, add-one, length, get_or, set, sets}
-use Rattle.wire.specs.Bytes.{word_of, bytes_of, part}
-use Rattle.wire.proofs.Parts.{part_more}
-
--- a byte in front of a word
-pub word_more : (s : List ℕ) (a a' n n' w b : ℕ) → a < length s → a' ≡ a + 1 → n' ≡ n + 1 → b ≡ get_or s a 0 → w ≡ word_of (part a' n s)
-    → w * 256 + b ≡ word_of (part a n' s)
-unfolding word_of
-word_more s a a' n n' w b h e k p q = rw (part_more a n' n s h k, ← e, ← p, ← q) (omega arith)
-
-pub word_grows : (n n' w b : ℕ) → n' ≡ n + 1 → w < 256 ^ n → b < 256 → w * 256 + b < 256 ^ n'
-word_grows n n' w b e h k = rw (e, add-one, pow-suc) (omega arith)
-
--- a word of n bytes fits m of them or more
-pub word_fits : (n m w : ℕ) → n ≤ m → w < 256 ^ n → w < 256 ^ m
-word_fits n m w h k = let p : 256 ^ n ≤ 256 ^ m = pow-le-pow_right (omega arith) h in omega arith
-
--- a byte stored, and the rest of its word behind it
-pub bytes_more : (out t : List ℕ) (j j' k k' rest : ℕ) → j' ≡ j + 1 → k ≡ k' + 1 → sets out j (bytes_of k rest) ≡ t
-    → sets (set out j (rest % 256)) j' (bytes_of k' (rest / 256)) ≡ t
-unfolding bytes_of
-bytes_more out t j j' k k' rest e f q = (rw (e, add-one)) ∙ (rw (f, add-one) at q)
+use Rattle.float.proofs.Words.{◌≡◌, refl, sym, ap, ◌∙◌, List, [], ◌∷◌, ◌++◌, ℕ, zero, suc, ◌+◌, ◌*◌, ◌/◌, ◌%◌, ◌^◌, ◌<◌, pow-zero, pow-suc}
+use Rattle.float.proofs.Words.{arith, length, get_or, replicate}
+use Rattle.std.proofs.Math.Nat.{div-one, div-div-eq-div-mul}
+use Rattle.std.specs.Int.{Width, to_le_bytes, bytes_low_first, byte_len}
+use Rattle.wire.specs.Bytes.{word_of, bytes_of}
 
 -- ---- back and forth
 
@@ -51,3 +33,25 @@ pub word_below : (l : List ℕ) → ((i : ℕ) → get_or l i 0 < 256) → word_
 unfolding word_of
 word_below [] h = rw pow-zero (omega arith)
 word_below (b ∷ l) h = let k : b < 256 = h 0 in let m = word_below l (λ (i : ℕ). h (suc i)) in rw pow-suc (omega arith)
+
+-- ---- the machine's bytes of a word, the lowest first
+
+bytes_low : (i k n : ℕ) → bytes_low_first i k n ≡ bytes_of k (n / 256 ^ i)
+unfolding bytes_of
+bytes_low zero zero n = refl
+bytes_low (suc i) zero n = refl
+bytes_low zero (suc k) n = rw (pow-zero 256, div-one n) (ap (λ (l : List ℕ). n % 256 ∷ l) (bytes_low 1 k n))
+bytes_low (suc i) (suc k) n =
+    let e : n / 256 ^ suc i / 256 ≡ n / 256 ^ suc (suc i) = rw (pow-suc 256 (suc i)) (div-div-eq-div-mul n (256 ^ suc i) 256) in
+    rw e (ap (λ (l : List ℕ). n / 256 ^ suc i % 256 ∷ l) (bytes_low (suc (suc i)) k n))
+
+pub bytes_machine : (w : Width) (n : ℕ) → to_le_bytes w n ≡ bytes_of (byte_len w) n
+bytes_machine w n = bytes_low 0 (byte_len w) n ∙ (rw (pow-zero 256, div-one n))
+
+-- ---- zeros behind a word's bytes add nothing
+
+pub word_padded : (x : List ℕ) (k : ℕ) → word_of (x ++ replicate k 0) ≡ word_of x
+unfolding word_of
+word_padded [] zero = refl
+word_padded [] (suc k) = let e : word_of (replicate k 0) ≡ 0 = word_padded [] k in omega arith
+word_padded (b ∷ x) k = ap (λ (n : ℕ). b + 256 * n) (word_padded x k)

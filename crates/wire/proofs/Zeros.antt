@@ -1,20 +1,14 @@
 -- The zero test of bytes, from a place on, and bytes taken together bit by bit: none has a bit exactly where all are zero.
-use Rattle.float.proofs.Words.{◌≡◌, refl, sym, ap, ◌∙◌, Bool, true, false, ◌&&◌, and_assoc, List, ℕ, ◌+◌, ◌-◌, ◌≤◌, ◌<◌, arith, eqb, length, get_or, eq-eqb, []}
+use Rattle.float.proofs.Words.{◌≡◌, refl, sym, ap, ◌∙◌, Bool, true, false, ◌&&◌, and_assoc, and-true, List, ℕ, ◌+◌, ◌-◌, ◌≤◌, ◌<◌, arith, eqb, length, get_or}
+use Rattle.float.proofs.Words.{eq-eqb, []}
 use Rattle.float.proofs.Words.{◌∷◌, zero, suc, drop, length-take, get_or-take, get_or-drop, ne_eqb, eqb-true, eqb-false, ltb, ltb-true, ltb-false, min}
+use Rattle.std.specs.List.{fold}
 use lib.Bits.{bit_or, or_add_and, and_le_l, and_le_r, or_zero_l}
 use Rattle.float.proofs.Finite.{both_true}
 use Rattle.wire.specs.Bytes.{part, all_zero, zero_from}
-use Rattle.wire.proofs.Parts.{part_more, part_past}
+use Rattle.wire.proofs.Parts.{part_past}
 
 -- ---- one byte, and none
-
-pub zero_more : (s : List ℕ) (i e : ℕ) → i < e → e ≤ length s → zero_from i e s ≡ eqb (get_or s i 0) 0 && zero_from (i + 1) e s
-unfolding all_zero
-zero_more s i e h k = rw (part_more i (e - i) (e - (i + 1)) s (omega arith) (omega arith))
-
-pub none_left : (s : List ℕ) (i e : ℕ) → e ≤ i → zero_from i e s ≡ true
-unfolding all_zero
-none_left s i e h = let z : e - i ≡ 0 = omega arith in rw z
 
 -- no byte stands behind the last one
 pub zero_past : (s : List ℕ) (a e : ℕ) → zero_from a (min e (length s)) s ≡ zero_from a e s
@@ -71,8 +65,23 @@ or_zero a b = by (eqb a 0) refl (eqb b 0) refl
     by true h false k = ne_eqb (bit_or a b) 0 (λ e. eqb-false b 0 k (no_bits a b e).1)
     by false h u k = ne_eqb (bit_or a b) 0 (λ e. eqb-false a 0 h (no_bits a b e).0)
 
--- a byte taken in
-pub taken_in : (s : List ℕ) (i e any : ℕ) → i < e → e ≤ length s → eqb any 0 && zero_from i e s ≡ eqb (bit_or any (get_or s i 0)) 0 && zero_from (i + 1) e s
-taken_in s i e any h k =
-    ap (λ (t : Bool). eqb any 0 && t) (zero_more s i e h k) ∙ sym (and_assoc (eqb any 0) (eqb (get_or s i 0) 0) (zero_from (i + 1) e s))
-    ∙ ap (λ (t : Bool). t && zero_from (i + 1) e s) (sym (or_zero any (get_or s i 0)))
+pub no_bit : (s : List ℕ) (any : ℕ) → eqb (fold bit_or any s) 0 ≡ eqb any 0 && all_zero s
+unfolding all_zero
+no_bit [] any = sym (and-true (eqb any 0))
+no_bit (b ∷ s) any =
+    no_bit s (bit_or any b) ∙ ap (λ (t : Bool). t && all_zero s) (or_zero any b) ∙ and_assoc (eqb any 0) (eqb b 0) (all_zero s)
+
+-- bytes up to the end of a slice, from a place that is not past them
+pub zero_within : (s : List ℕ) (a e : ℕ) → all_zero (part (min a (min e (length s))) (min e (length s) - min a (min e (length s))) s) ≡ zero_from a e s
+zero_within s a e = by (ltb (min e (length s)) a) refl ∙ zero_past s a e
+  where
+    end : ℕ
+    end = min e (length s)
+
+    by : (t : Bool) → ltb end a ≡ t → all_zero (part (min a end) (end - min a end) s) ≡ zero_from a end s
+    by true h =
+        let l = ltb-true end a h in
+        let m : end - min a end ≡ 0 = omega arith in
+        let n : end - a ≡ 0 = omega arith in
+        rw (m, n)
+    by false h = let l = ltb-false end a h in let m : min a end ≡ a = omega arith in rw m

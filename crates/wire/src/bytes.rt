@@ -1,88 +1,38 @@
 // Words and numbers in byte slices, the lowest byte first. Real is f64 (float::width).
-ghost use Rattle.std.specs.Prelude.{◌≡◌, ◌+◌, ◌-◌, ◌*◌, ◌≤◌, ◌<◌, min, length};
+ghost use Rattle.std.specs.Prelude.{◌≡◌, ◌+◌, ◌*◌, ◌≤◌, length, to_bits};
 ghost use Rattle.std.proofs.lemmas.List.Edits.{sets};
 ghost use Rattle.float.specs.Width.{F};
-ghost use Rattle.wire.specs.Bytes.{number_bytes, word_of, bytes_of, part, number_at, number_bytes_of, placed_of, zero_from};
+ghost use Rattle.wire.specs.Bytes.{number_bytes, word_of, bytes_of, number_at, number_bytes_of, placed_of, zero_from};
 
 use float::bits::{of_bits, to_bits};
 use float::width::{Bits, NUMBER_SIZE, Real};
 
-fn wide(b: u8) -> Bits
-    ensures { (result ≡ b) × (result < 256) }
+fn word(bytes: [u8; NUMBER_SIZE]) -> Bits
+    ensures { result ≡ word_of bytes }
 {
-    b as Bits
-}
-
-fn lesser(m: usize, n: usize) -> usize
-    ensures { result ≡ min m n }
-{
-    if m <= n {
-        return m;
-    }
-    n
-}
-
-// How many of n bytes from `at` on there are in so many.
-fn present(len: usize, at: usize, n: usize) -> usize
-    ensures { result ≡ min n (len - at) }
-{
-    if at >= len {
-        return 0;
-    }
-    lesser(n, len - at)
-}
-
-// The word of the n bytes from `at` on.
-fn word_at(s: &[u8], at: usize, n: usize) -> Bits
-    requires { (n ≤ number_bytes F) × (n ≤ length s.now - at) }
-    ensures { result ≡ word_of (part at n s.now) }
-{
-    let mut w: Bits = 0;
-    let mut i = n;
-    while i > 0usize {
-        i -= 1usize;
-        w = w * 256 + wide(s[at + i]);
-    }
-    w
+    Bits::from_le_bytes(bytes)
 }
 
 // The number at byte `at`; bytes behind the last one count as zeros.
 pub fn number_at(s: &[u8], at: usize) -> Real
     ensures { result ≡ number_at F at s.now }
 {
-    let n = present(s.len(), at, NUMBER_SIZE);
-    // most numbers are there as a whole, and of a loop whose length it knows the compiler makes one load
-    if n == NUMBER_SIZE {
-        return of_bits(word_at(s, at, NUMBER_SIZE));
+    let rest = &s[at.min(s.len())..];
+    // most numbers are there as a whole, and eight bytes that are known to be there are one load
+    if let Some(bytes) = rest.first_chunk() {
+        return of_bits(word(*bytes));
     }
-    of_bits(word_at(s, at, n))
+    let mut bytes = [0; NUMBER_SIZE];
+    bytes[..rest.len()].copy_from_slice(rest);
+    of_bits(word(bytes))
 }
 
-// n's eight bytes from `at` on.
-fn put_word(out: &mut [u8], at: usize, n: Bits)
+// x's eight bytes from `at` on.
+fn put(out: &mut [u8], at: usize, x: Real)
     requires { at + number_bytes F ≤ length out.old }
-    ensures { out.new ≡ sets out.old at (bytes_of (number_bytes F) n) }
+    ensures { out.new ≡ sets out.old at (bytes_of (number_bytes F) (to_bits F x)) }
 {
-    let mut rest = n;
-    let mut i = 0usize;
-    while i < NUMBER_SIZE {
-        out[at + i] = (rest % 256) as u8;
-        rest = rest / 256;
-        i += 1usize;
-    }
-}
-
-// The numbers' bytes from `at` on, where there is room for all of them.
-fn put_all(out: &mut [u8], at: usize, xs: &[Real])
-    requires { at + number_bytes F * length xs.now ≤ length out.old }
-    ensures { out.new ≡ sets out.old at (number_bytes_of F xs.now) }
-{
-    let mut i = 0usize;
-    while i < xs.len() {
-        let x = xs[i];
-        put_word(out, at + NUMBER_SIZE * i, to_bits(x));
-        i += 1usize;
-    }
+    out[at..at + NUMBER_SIZE].copy_from_slice(&to_bits(x).to_le_bytes());
 }
 
 // The numbers' bytes from `at` on; without room for all of them nothing is written.
@@ -90,26 +40,19 @@ pub fn put_numbers(out: &mut [u8], at: usize, xs: &[Real])
     ensures { out.new ≡ placed_of at (number_bytes_of F xs.now) out.old }
 {
     // a difference and a quotient, since the sum of `at` and the numbers' bytes could be past the largest usize
-    if at > out.len() {
+    if at > out.len() || xs.len() > (out.len() - at) / NUMBER_SIZE {
         return;
     }
-    if xs.len() > (out.len() - at) / NUMBER_SIZE {
-        return;
+    for (i, x) in xs.iter().enumerate() {
+        put(out, at + NUMBER_SIZE * i, *x);
     }
-    put_all(out, at, xs);
 }
 
 // Whether all bytes from `a` up to `e` are zero; those behind the last one do not count.
 pub fn zeros_in(s: &[u8], a: usize, e: usize) -> bool
     ensures { result ≡ zero_from a e s.now }
 {
-    let end = lesser(e, s.len());
+    let end = e.min(s.len());
     // it takes every byte in and never stops early, so that the compiler can take many at a time
-    let mut any = 0u8;
-    let mut i = a;
-    while i < end {
-        any = any | s[i];
-        i += 1usize;
-    }
-    any == 0u8
+    s[a.min(end)..end].iter().fold(0, |any, b| any | *b) == 0
 }

@@ -10,4 +10,4 @@ pub returns : goal.returns
 returns c =
     let a = c.args in
     let step = c.zanikory_answer_record in
-    part_answered a.have a.buf.now a.out.now step.new.answer _ (omega arith) (omega arith) (omega arith) step.ensures.1
+    part_answered a.have a.requests.now a.answers.now step.new.answer _ (omega arith) (omega arith) (omega arith) step.ensures.1

@@ -1,12 +1,15 @@
 -- What `eigen_jacobi` answers to a matrix and to its negation differs only in the order of the axes: its promise names the answer, of which `reversed` says so.
 -- The promise is read from the source, as a caller reads it.
+use Rattle.std.specs.Prelude.{Result}
 use Rattle.float.proofs.Words.{◌≡◌, sym, ap, ◌∙◌, subst₂, true, false, List, ℕ, ◌+◌, ◌*◌, ◌<◌, add-zero, length, Float, neg, eq}
 use Rattle.float.specs.Width.{F}
+use Rattle.matrix.specs.Codes.{told}
 use Rattle.matrix.specs.Places.{at}
-use Rattle.matrix.specs.declared.symmetric.Sym3.{Sym3}
+use Rattle.matrix.specs.declared.codes.Refusal.{Refusal}
+use Rattle.matrix.specs.Symmetric.{Sym3}
 use Rattle.matrix.proofs.Tables.{at-tabulate}
 use Rattle.jacobi.specs.declared.made.Made.{Made}
-use Rattle.eigen.specs.Eigen3x3.{eigen_of}
+use Rattle.eigen.specs.Eigen3x3.{EigenAnswer, whole_eigen, refused_eigen, eigen_of}
 use Rattle.eigen.specs.Reversed.{negated, column_of, Reversed}
 use Rattle.eigen.specs.declared.eigen3x3.Eigen3.{Eigen3}
 use Rattle.eigen.proofs.Reversed.{reversed}
@@ -14,7 +17,8 @@ use Rattle.eigen.proofs.eigen3x3.eigen_jacobi.Reads as eigen-jacobi
 
 -- A matrix of the source holds six numbers. Here its numbers are a list, so their count is a premise.
 pub reversed_wiring : (a b : Sym3) → length a.«data» ≡ 6 → b.«data» ≡ negated a.«data»
-    → (r q : Eigen3) → eigen-jacobi.Post tt (a, tt) r (a, tt) → eigen-jacobi.Post tt (b, tt) q (b, tt) → Reversed r q
+    → (r q : Result Eigen3 Refusal) → eigen-jacobi.Post tt (a, tt) r (a, tt) → eigen-jacobi.Post tt (b, tt) q (b, tt)
+    → Reversed (told (refused_eigen F) whole_eigen r) (told (refused_eigen F) whole_eigen q)
 reversed_wiring a b h e r q p s = subst₂ Reversed (sym p) (sym (s ∙ ap (eigen_of F) e)) (reversed F a.«data» h)
 
 -- ---- the places of the vectors, one by one: of nine numbers the first three are those of the last column of the other
@@ -24,7 +28,7 @@ same_column : (v w : List Float) (c d : ℕ) → column_of v c ≡ column_of w d
 same_column v w c d e i l =
     sym (at-tabulate 3 (λ (r : ℕ). at v (r + c * 3)) i l) ∙ ap (λ (x : List Float). at x i) e ∙ at-tabulate 3 (λ (r : ℕ). at w (r + d * 3)) i l
 
-pub exchanged-places : (r q : Eigen3) → Reversed r q → r.code ≡ 0
+pub exchanged-places : (r q : EigenAnswer) → Reversed r q → r.code ≡ 0
     → let x = r.values in let y = q.values in let v = r.vectors.«data» in let w = q.vectors.«data» in
     (q.code ≡ 0) × (r.made.count ≡ q.made.count) × (r.settled ≡ q.settled)
     × (eq (at x 0) (neg (at y 2)) ≡ true) × (eq (at x 1) (neg (at y 1)) ≡ true) × (eq (at x 2) (neg (at y 0)) ≡ true)

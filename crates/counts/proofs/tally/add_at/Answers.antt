@@ -1,22 +1,22 @@
 -- All counts fit as they are, so the sum fits where the one count that grows does.
-use Rattle.float.proofs.Words.{refl, sym, ◌∙◌, false≢true, ℕ, ◌+◌, ◌^◌, ◌<◌, arith, get_or, length-set, lt-ltb, le-ltb, rules}
-use Rattle.std.proofs.Common.{Fits, w64}
-use Rattle.counts.proofs.Sums.{fits_each, set_plus, only_fits}
+use Rattle.float.proofs.Words.{◌≡◌, ap, ◌∙◌}
+use Rattle.std.specs.Prelude.{Some, None}
+use Rattle.std.specs.Result.{result_ok}
+use Rattle.counts.proofs.Sums.{count_fits, count_passes, handed_on}
 use Rattle.counts.proofs.tally.add_at.Goals as goal
 
-pub returns-then-n-had : goal.returns-then-n-had
-returns-then-n-had c =
+pub returns-in_err-sum : goal.returns-in_err-sum
+returns-in_err-sum c =
     let a = c.args in
     let xs = a.counts.now in
-    let new = get_or xs a.at 0 + a.n in
-    let fit = only_fits xs a.at a.n c.requires (fits_each xs (λ i. (c.type_inv.counts i).fits)) in
-    (sym (fit ∙ le-ltb new (2 ^ 64) (omega arith)), refl, λ e. absurd (false≢true e))
+    let none : c.checked_add.result ≡ None = c.ok_or.ensures.ok_part ∙ ap result_ok c.in_err-sum.was in
+    rw (handed_on c.from_residual.result c.from_residual.ensures.0)
+    (count_passes xs a.at a.n c.told-counts c.requires c.fits-counts (rw none at c.checked_add.ensures))
 
 pub returns : goal.returns
 returns c =
     let a = c.args in
     let xs = a.counts.now in
-    let new = get_or xs a.at 0 + a.n in
-    let each : (i : ℕ) → get_or xs i 0 < 2 ^ 64 = λ i. (let h : Fits w64 (get_or xs i 0) = search rules in h.fits) in
-    let fit = only_fits xs a.at a.n c.requires (fits_each xs each) in
-    (sym (fit ∙ lt-ltb new (2 ^ 64) (omega (arith, each a.at))), length-set xs a.at new, λ e. set_plus xs a.at a.n c.requires)
+    let some : c.checked_add.result ≡ Some c.in_ok-sum.sum = c.ok_or.ensures.ok_part ∙ ap result_ok c.in_ok-sum.was in
+    let sum = rw some at c.checked_add.ensures in
+    rw sum.1 (count_fits xs a.at a.n c.told-counts c.requires c.fits-counts sum.0)

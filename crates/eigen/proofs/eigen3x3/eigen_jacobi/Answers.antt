@@ -1,12 +1,14 @@
--- Each return is one outcome of the test of the input; the answer past it is judged from the last state.
-use Rattle.float.proofs.Judged.{stands, refuses}
+-- Past both tests the answer is that of the last state.
+use Rattle.float.proofs.Judged.{stands}
 use Rattle.eigen.specs.Eigen3x3.{end_of, eigen_of}
 use Rattle.eigen.proofs.eigen3x3.eigen_jacobi.Goals as goal
 
-pub returns-then-all_finite : goal.returns-then-all_finite
-unfolding eigen_of end_of
-returns-then-all_finite c = rw (stands _ c.all_finite.ensures c.if-all_finite.true, c.judge.ensures, c.work.ensures)
-
 pub returns : goal.returns
 unfolding eigen_of end_of
-returns c = rw (refuses _ c.all_finite.ensures c.if-all_finite.false) c.refused.ensures
+returns c =
+    rw (
+      stands _ c.all_finite.ensures c.if-not-all_finite.false,
+      ← c.work-w.ensures,
+      stands _ (rw c.rank-x.ensures at c.both_finite.ensures) c.if-not-both_finite.false,
+    )
+    (rw (c.rank-x.ensures, c.is_settled.ensures))

@@ -1,26 +1,21 @@
--- The lengths passed, L takes the factor that is handed back, and the pivot's place its number.
-use Rattle.float.proofs.Words.{◌≡◌, refl, ap, ◌∙◌, eq-eqb, ne_eqb}
-use Rattle.float.specs.Width.{F}
-use Rattle.cholesky.specs.Factor.{factor2, factor2_of}
-use Rattle.cholesky.specs.declared.cholesky2x2.Factor2.{Factor2}
+-- Both lengths passed, L takes what the kernel left of the old factor, and the pivot's place its number.
+use Rattle.float.proofs.Words.{refl, eq-eqb, ne_eqb}
 use Rattle.exports.specs.Kernels.{factor2_into}
 use Rattle.exports.proofs.kernels.zanikory_cholesky_2x2_factor.Goals as goal
 
-pub returns-then-l-ne3 : goal.returns-then-l-ne3
+pub returns-in_default : goal.returns-in_default
 unfolding factor2_into
-returns-then-l-ne3 c = rw (ne_eqb _ 3 c.if-l-ne3.true) (refl, refl, refl)
+returns-in_default c = rw (ne_eqb _ 3 c.in_default.ensures.0) (c.from.ensures, refl, refl)
 
-pub returns-then-a-ne3 : goal.returns-then-a-ne3
+pub returns-in_default-numbers : goal.returns-in_default-numbers
 unfolding factor2_into
-returns-then-a-ne3 c = rw (eq-eqb _ 3 c.if-l-ne3.false, ne_eqb _ 3 c.if-a-ne3.true) (refl, refl, refl)
+returns-in_default-numbers c =
+    rw (eq-eqb _ 3 c.in-Ok.ensures.0, ne_eqb _ 3 c.in_default-numbers.ensures.0) (c.from-in_default-numbers.ensures, refl, refl)
 
 pub returns : goal.returns
 unfolding factor2_into
 returns c =
-    let e : c.cholesky_2x2_explicit_factor-r.result ≡ factor2 (factor2_of F c.args.l.now c.args.a.now) =
-    rw (c.sym2_of.ensures, c.sym2_of-2.ensures) at c.cholesky_2x2_explicit_factor-r.ensures in
-    rw (eq-eqb _ 3 c.if-l-ne3.false, eq-eqb _ 3 c.if-a-ne3.false) (
-      ap (λ (r : Factor2). r.code) e,
-      c.put.ensures ∙ ap (λ (r : Factor2). r.factor.«data») e,
-      ap (λ (r : Factor2). r.pivot) e,
-    )
+    let l = c.in-Ok.ensures in
+    let a = c.in-Ok-numbers.ensures in
+    let e = rw (l.1, a.1) at c.cholesky_2x2_explicit_factor-r.ensures in
+    rw (eq-eqb _ 3 l.0, eq-eqb _ 3 a.0, ← e) (c.factor_told.ensures.code, c.copy_from_slice.ensures.after, c.factor_told.ensures.number)

@@ -5,31 +5,26 @@ use Rattle.float.specs.Parts.{significand_of, exponent_of}
 use Rattle.float.specs.Digits.{RootPattern}
 use Rattle.float.proofs.Assembled.{half_bias, odd_field, even_field, assembled_nearest}
 use Rattle.float.proofs.root.quick_root.Goals as goal
-use Rattle.float.proofs.root.quick_root.Goals.{Joined-m-lt-LEADING, then-m-lt-LEADING, else-m-lt-LEADING}
-
-module _ (c : Joined-m-lt-LEADING) where
-  -- m has the digits of a significand, and perhaps one more
-  range : (hid F ≤ c.if-m-lt-LEADING.m) × (c.if-m-lt-LEADING.m < 4 * hid F)
-  range =
-      elim c.if-m-lt-LEADING.branch [
-        | then-m-lt-LEADING w ↦ let e = w.m-is in (omega arith, omega arith)
-        | else-m-lt-LEADING w ↦ let e = w.m-is in (omega arith, omega arith)
-      ]
-
-  digits : c.if-m-lt-LEADING.m ≡ significand_of F c.args.b * 2 ^ (exponent_of F c.args.b % 2)
-  digits =
-      elim c.if-m-lt-LEADING.branch [
-        | then-m-lt-LEADING w ↦ w.m-is ∙ even_field F c.args.b c.if-b-lt-LEADING.false c.if-b-ge-INFINITY.false w.if-m-lt-LEADING.true
-        | else-m-lt-LEADING w ↦ w.m-is ∙ odd_field F c.args.b c.if-b-lt-LEADING.false c.if-b-ge-INFINITY.false w.if-m-lt-LEADING.false
-      ]
+use Rattle.float.proofs.root.quick_root.Goals.{then-digits-lt-LEADING, else-digits-lt-LEADING}
 
 pub returns : goal.returns
-returns c sure =
-    let j = (goal.at.returns c).Joined-m-lt-LEADING in
+returns c =
     let b = c.args.b in
-    let t = c.tried_root-t in
-    let q : ℕ = t.result.upper + t.result.lower in
-    let e : (exponent_of F b / 2 + half_bias F) * hid F + q ≡ ((b / hid F - 1) / 2 + half_bias F) * hid F + t.result.upper + t.result.lower = omega arith in
-    subst (RootPattern F b) e
-    (assembled_nearest F b c.if-m-lt-LEADING.m q c.if-b-lt-LEADING.false c.if-b-ge-INFINITY.false (digits j) (range j).0 (range j).1
-    (t.ensures.nearest sure))
+    let low = c.if-b-lt-LEADING.false in
+    let high = c.if-b-ge-INFINITY.false in
+    let d = c.if-digits-lt-LEADING in
+    -- m has the digits of a significand, and perhaps one more
+    let range : (hid F ≤ d.m) × (d.m < 4 * hid F) =
+    elim d.branch [
+      | then-digits-lt-LEADING w ↦ let e = w.m-is in (omega arith, omega arith)
+      | else-digits-lt-LEADING w ↦ let e = w.m-is in (omega arith, omega arith)
+    ] in
+    let digits : d.m ≡ significand_of F b * 2 ^ (exponent_of F b % 2) =
+    elim d.branch [
+      | then-digits-lt-LEADING w ↦ w.m-is ∙ even_field F b low high w.if-digits-lt-LEADING.true
+      | else-digits-lt-LEADING w ↦ w.m-is ∙ odd_field F b low high w.if-digits-lt-LEADING.false
+    ] in
+    let t = c.in_ok-t.t in
+    let q : ℕ = t.upper + t.lower in
+    let e : (exponent_of F b / 2 + half_bias F) * hid F + q ≡ ((b / hid F - 1) / 2 + half_bias F) * hid F + t.upper + t.lower = omega arith in
+    subst (RootPattern F b) e (assembled_nearest F b d.m q low high digits range.0 range.1 c.in_ok-t.ensures.nearest)

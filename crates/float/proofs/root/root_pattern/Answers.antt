@@ -43,8 +43,8 @@ module _ (c : After-biased) where
   held-exponent : to_z W (of_z W (to_z W (of_z W c.parts_of-p.result.e) -ℤ pos (prec F - 1))) ≡ minus k (2 * H)
   held-exponent = held W k (2 * H) _ (omega arith) exponent
 
-  half : c.halved-h.result ≡ minus (k / 2) H
-  half = c.halved-h.ensures ∙ ap (λ (z : ℤ). shr_z z 2) held-exponent ∙ half_of (2 * H) H k refl
+  half : c.halved.result ≡ minus (k / 2) H
+  half = c.halved.ensures ∙ ap (λ (z : ℤ). shr_z z 2) held-exponent ∙ half_of (2 * H) H k refl
 
   odd : c.is_odd.result ≡ eqb (k % 2) 1
   odd = c.is_odd.ensures ∙ ap odd_z held-exponent ∙ odd_of (2 * H) H k refl
@@ -66,7 +66,7 @@ module _ (c : After-biased) where
   field_is : c.biased.result ≡ k / 2 + (low F - H)
   field_is =
       biased_of H (low F) c.biased.result (k / 2) (omega arith)
-      (c.biased.ensures ∙ ap (λ (z : ℤ). z +ℤ pos (low F)) (held W (k / 2) H c.halved-h.result (omega arith) half))
+      (c.biased.ensures ∙ ap (λ (z : ℤ). z +ℤ pos (low F)) (held W (k / 2) H c.halved.result (omega arith) half))
 
   q-is : c.if-w.q ≡ rounded c.whole_root-w.result.q c.whole_root-w.result.left
   q-is =

@@ -27,6 +27,6 @@ returns-then-j c = let j = c.biased-j.result in
     let h = c.if-j.true in
     c.of_number.ensures ∙ ap (of_bits F) (digit j h) ∙ low_power F j p.1 h ∙ ap (fin false 1) (sym p.0)
 
-pub returns : goal.returns
-returns c = let p = place (goal.at.returns c).After-biased-j in
-    c.of_number-2.ensures ∙ high_power F c.biased-j.result p.1 c.if-j.false ∙ ap (fin false 1) (sym p.0)
+pub returns-else-j : goal.returns-else-j
+returns-else-j c = let p = place (goal.at.returns-else-j c).After-biased-j in
+    c.of_number-else-j.ensures ∙ high_power F c.biased-j.result p.1 c.if-j.false ∙ ap (fin false 1) (sym p.0)

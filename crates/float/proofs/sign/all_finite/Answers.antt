@@ -1,25 +1,12 @@
--- The invariant: the test from i on is the test of the whole.
-use Rattle.float.proofs.Words.{◌≡◌, refl, sym, ◌∙◌, arith, length, drop-length}
-use Rattle.float.specs.Sign.{all_finite}
-use Rattle.float.proofs.Finite.{goes_on, stops}
+-- The iterator goes over the slice, and the closure is the test of one number.
+use Rattle.float.proofs.Words.{sym, ◌∙◌}
+use Rattle.std.proofs.Common.{rules, tests}
+use Rattle.std.proofs.lemmas.Iterator.{YieldsList-from_slice}
+use Rattle.std.proofs.lemmas.Iterator.Search.{all_from_yields_List}
+use Rattle.float.specs.Sign.{finite}
+use Rattle.float.proofs.Finite.{all_finite-list}
 use Rattle.float.proofs.sign.all_finite.Goals as goal
 
-pub loop-i-init : goal.loop-i-init
-loop-i-init c = (omega arith, refl)
-
-pub loop-i-preserved : goal.loop-i-preserved
-loop-i-preserved c = let l = c.loop-i in
-    let s = c.args.xs.now in
-    (omega arith, sym (goes_on s l.i (omega arith) (sym c.is_finite.ensures ∙ c.if-is_finite.true)) ∙ l.invariant.1)
-
-pub returns-else-is_finite : goal.returns-else-is_finite
-returns-else-is_finite c = let l = c.loop-i in
-    let s = c.args.xs.now in
-    sym (stops s l.i (omega arith) (sym c.is_finite.ensures ∙ c.if-is_finite.false)) ∙ l.invariant.1
-
 pub returns : goal.returns
-unfolding all_finite
-returns c = let l = c.loop-i in
-    let s = c.args.xs.now in
-    let e : l.i ≡ length s = omega arith in
-    (rw (e, drop-length) at l.invariant.1)
+returns c = let xs = c.args.xs.now in
+    all_from_yields_List finite _ _ _ c.all.ensures.ran (YieldsList-from_slice xs (cc)) (λ x b q k. search (rules, tests)) ∙ sym (all_finite-list xs)

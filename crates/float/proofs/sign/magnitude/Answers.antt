@@ -7,5 +7,5 @@ use Rattle.float.proofs.sign.magnitude.Goals as goal
 pub returns-then-x : goal.returns-then-x
 returns-then-x c = magnitude_low F c.args.x (passes _ c.well_formed.0.1) c.if-x.true
 
-pub returns : goal.returns
-returns c = magnitude_high F c.args.x c.if-x.false
+pub returns-else-x : goal.returns-else-x
+returns-else-x c = magnitude_high F c.args.x c.if-x.false

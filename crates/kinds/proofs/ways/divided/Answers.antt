@@ -17,4 +17,4 @@ minus : (k : ℤ) → SFits W k → InReach F k → to_z W (of_z W (pos 0 -ℤ t
 minus k f h = rw (to_z-of_z W k f, +ℤ_idl (neg_ℤ k)) (to_z-of_z W (neg_ℤ k) (small k h))
 
 pub returns : goal.returns
-returns c = let k = c.args.k in rw (c.scaled9-nine.ensures, minus k c.ranges.k c.requires, limited-minus F k c.requires)
+returns c = let k = c.args.k in rw (c.scaled_all.ensures, minus k c.ranges.k c.requires, limited-minus F k c.requires)

@@ -1,22 +1,24 @@
 -- The heading, and a block of lines behind it.
-use Rattle.float.proofs.Words.{arith}
+use Rattle.float.proofs.Words.{lit<, arith, length-append}
 use Rattle.listing.specs.Text.{decimal_in, fields_of}
 use Rattle.listing.specs.Page.{turns_heading}
-use Rattle.listing.proofs.Pieces.{turns_block, turns_put, turns_length}
+use Rattle.listing.proofs.Pieces.{turns-put, turns_put, turns_length}
 use Rattle.listing.proofs.page.put_turns.Goals as goal
 
-pub put_bytes-end-requires : goal.put_bytes-end-requires
+pub push_str-requires : goal.push_str-requires
 unfolding turns_heading fields_of decimal_in
-put_bytes-end-requires c = omega (arith, turns_length c.args.counts.now)
+push_str-requires c = (lit< tt, omega (arith, turns_length c.args.counts.now))
 
 pub put_block-requires : goal.put_block-requires
 unfolding turns_heading fields_of decimal_in
 put_block-requires c =
     let t = c.args.counts.now in
-    (rw (turns_block t) (omega (arith, turns_length t)), omega arith, omega arith)
+    let turns = turns-put t c.told-counts _ c.as_chunks.ensures.front in
+    (lit< tt, (rw (turns, c.push_str.ensures.bytes, length-append) (omega (arith, turns_length t)), omega (arith, c.as_chunks.ensures.front_len)))
 
 pub returns : goal.returns
 unfolding turns_heading fields_of decimal_in
 returns c =
     let t = c.args.counts.now in
-    turns_put t c.put_bytes-end.ensures (rw (turns_block t) at c.put_block.ensures)
+    let turns = turns-put t c.told-counts _ c.as_chunks.ensures.front in
+    rw (c.put_block.ensures, turns, c.push_str.ensures.bytes) (turns_put t c.args.page.now.bytes)

@@ -1,11 +1,7 @@
--- In each round one line more is put behind those that are there.
-use Rattle.float.proofs.Words.{◌≡◌, ◌-◌, ◌≤◌, length}
-use Rattle.listing.specs.Putting.{Puts, block_of}
+-- The text with the lines that are still to come stays the same in each round.
+use Rattle.float.proofs.Words.{◌≡◌, ◌+◌, ◌++◌, drop}
+use Rattle.listing.specs.Putting.{block_of}
 use Rattle.listing.proofs.text.put_block.Given as goal
 
 abbrev pub invariant-loop-i : goal.invariant-loop-i
-invariant-loop-i l =
-    (l.i ≤ l.lines) × (length l.out ≡ length l.initial.out) × Puts l.initial.out l.at (block_of l.counts l.first l.from l.width l.i) l.end l.out
-
-abbrev pub decreases-loop-i : goal.decreases-loop-i
-decreases-loop-i l = l.lines - l.i
+invariant-loop-i g l = l.page.bytes ++ block_of (l.first + l.i) (drop l.i l.lines) ≡ l.initial.page.bytes ++ block_of l.first l.lines

@@ -1,48 +1,48 @@
--- The counts that are put, with the others put behind them, stay the same in each round.
-use Rattle.float.proofs.Words.{◌≡◌, ◌∙◌, List, ℕ, ◌+◌, ◌≤◌, arith, length, length-append, get_or, drop, drop-length, length-set}
-use Rattle.listing.specs.Text.{decimal_of}
+-- The text with the counts that are still to come stays the same in each round.
+use Rattle.float.proofs.Words.{◌≡◌, ◌∙◌, append_assoc, lit<, arith, length, length-append, get_or, drop, drop-length}
+use Rattle.std.proofs.lemmas.Str.{encode_ascii}
 use Rattle.listing.specs.Putting.{counts_end}
-use Rattle.listing.proofs.Stores.{counts_none, counts_more, byte_then}
+use Rattle.listing.proofs.Decimals.{decimal_is}
+use Rattle.listing.proofs.Stores.{counts_none, counts_more, room_left}
 use Rattle.listing.proofs.text.put_counts.Goals as goal
 
--- the room for a tab, a count and what follows
-room : (counts : List ℕ) (i : ℕ) → i + 1 ≤ length counts
-    → length (counts_end (drop i counts)) ≡ 1 + length (decimal_of (get_or counts i 0)) + length (counts_end (drop (i + 1) counts))
-room counts i h = rw (counts_more counts i (omega arith), length-append) (omega arith)
-
--- the room for the end of the line
-last_room : (counts : List ℕ) (i : ℕ) → i ≤ length counts → length counts ≤ i → length (counts_end (drop i counts)) ≡ 1
-last_room counts i h k = let e : i ≡ length counts = omega arith in rw (e, drop-length, counts_none)
-
-pub bounds-out-end : goal.bounds-out-end
-bounds-out-end c = omega (arith, room c.args.counts.now c.loop-i.i (omega arith))
-
-pub put_decimal-end-requires : goal.put_decimal-end-requires
-put_decimal-end-requires c = simp length-set (omega (arith, room c.args.counts.now c.loop-i.i (omega arith)))
-
-pub loop-i-preserved : goal.loop-i-preserved
-loop-i-preserved c =
-    let put = c.put_decimal-end in
-    let l = c.loop-i in
+pub push-requires : goal.push-requires
+push-requires c =
     let counts = c.args.counts.now in
-    let length-kept : length put.new.out ≡ length l.out = put.auto.out ∙ length-set l.out l.end 9 in
-    let h : l.i + 1 ≤ length counts = omega arith in
-    let r = room counts l.i h in (
-      h,
-      omega arith,
-      omega (arith, put.ensures.behind),
-      byte_then l.out (counts_end (drop (l.i + 1) counts)) 9 l.end put.ensures ∙ (rw (counts_more counts l.i (omega arith)) at l.invariant.3),
-    )
+    let i = c.loop-n.n-index in
+    let left = room_left c.args.page.now.bytes (counts_end counts) c.loop-n.page.bytes (counts_end (drop i counts)) c.requires c.loop-n.invariant in
+    let room = rw (counts_more counts i c.loop-n-test.true) at left in
+    (lit< tt, rw (encode_ascii 9 (lit< tt)) (omega (arith, room)))
 
-pub bounds-out-end-2 : goal.bounds-out-end-2
-bounds-out-end-2 c = omega (arith, last_room c.args.counts.now c.loop-i.i (omega arith) (omega arith))
+pub push_str-requires : goal.push_str-requires
+push_str-requires c =
+    let counts = c.args.counts.now in
+    let i = c.loop-n.n-index in
+    let left = room_left c.args.page.now.bytes (counts_end counts) c.loop-n.page.bytes (counts_end (drop i counts)) c.requires c.loop-n.invariant in
+    let room = simp length-append at (rw (counts_more counts i c.loop-n-test.true) at left) in
+    let text = c.format.ensures.text ∙ decimal_is (get_or counts i 0) (c.type_inv.counts i).fits in
+    (lit< tt, rw (text, c.push.ensures.ascii (lit< tt), length-append) (omega (arith, room)))
+
+pub loop-n-preserved : goal.loop-n-preserved
+loop-n-preserved c =
+    let counts = c.args.counts.now in
+    let i = c.loop-n.n-index in
+    let text = c.format.ensures.text ∙ decimal_is (get_or counts i 0) (c.type_inv.counts i).fits in
+    let before = rw (counts_more counts i c.loop-n-test.true) at c.loop-n.invariant in
+    rw (c.push_str.ensures.bytes, text, c.push.ensures.ascii (lit< tt), append_assoc, append_assoc) before
+
+pub push-requires-2 : goal.push-requires-2
+push-requires-2 c =
+    let counts = c.args.counts.now in
+    let i = c.loop-n.n-index in
+    let last : i ≡ length counts = omega arith in
+    let left = room_left c.args.page.now.bytes (counts_end counts) c.loop-n.page.bytes (counts_end (drop i counts)) c.requires c.loop-n.invariant in
+    let room = rw (last, drop-length, counts_none) at left in
+    (lit< tt, rw (encode_ascii 10 (lit< tt)) (omega (arith, room)))
 
 pub returns : goal.returns
 returns c =
-    let l = c.loop-i in
     let counts = c.args.counts.now in
-    let e : l.i ≡ length counts = omega arith in
-    record {
-      behind = omega (arith, last_room counts l.i (omega arith) (omega arith));
-      stored = (rw (e, drop-length, counts_none) at l.invariant.3);
-    }
+    let i = c.loop-n.n-index in
+    let last : i ≡ length counts = omega arith in
+    c.push-2.ensures.ascii (lit< tt) ∙ (rw (last, drop-length, counts_none) at c.loop-n.invariant)

@@ -1,30 +1,35 @@
 -- The two sizes are asked one after the other, and each outcome is one record, or none where the answer has no room.
-use Rattle.float.proofs.Words.{refl, ap, ◌∙◌, List, [], ◌∷◌, ℕ, arith, get_or, replicate, eq-eqb, ne_eqb}
+use Rattle.float.proofs.Words.{◌≡◌, refl, ◌∙◌, List, ℕ, take}
 use Rattle.float.specs.Width.{F}
-use Rattle.kinds.specs.declared.work.Worked.{Worked}
-use Rattle.record.specs.Layout.{event_bytes, request_size, answer_size}
+use Rattle.kinds.specs.Work.{WorkedAnswer}
+use Rattle.kinds.specs.Read.{worked}
+use Rattle.record.specs.Layout.{event_bytes}
 use Rattle.record.specs.Request.{kind_of, judged_of}
-use Rattle.record.specs.Answer.{record_of, record_step_of}
-use Rattle.record.proofs.Heads.{first_four}
+use Rattle.record.specs.Answer.{record_of, answered_of}
+use Rattle.record.proofs.Answers.{with_room, wrong_size, no_room}
 use Rattle.record.proofs.answer.zanikory_answer_record.Goals as goal
 
+-- s is the request, as an array
+answered : (request s out : List ℕ) (w : WorkedAnswer) → s ≡ request → w ≡ judged_of F s → out ≡ record_of F (take event_bytes s) (kind_of s) w
+    → (w.code ≡ (judged_of F request).code) × (out ≡ answered_of F request)
+answered request s out w e h p = (rw (h, e), p ∙ (rw (h, e)))
+
 pub returns-then-answer-ne-ANSWER_SIZE : goal.returns-then-answer-ne-ANSWER_SIZE
-unfolding record_step_of
-returns-then-answer-ne-ANSWER_SIZE c = rw (ne_eqb _ (answer_size F) c.if-answer-ne-ANSWER_SIZE.true) (refl, refl)
+returns-then-answer-ne-ANSWER_SIZE c = rw (no_room F c.args.request.now c.args.answer.now c.if-answer-ne-ANSWER_SIZE.true) (refl, refl)
 
-pub returns-then-request-ne-REQUEST_SIZE : goal.returns-then-request-ne-REQUEST_SIZE
-unfolding record_step_of
-returns-then-request-ne-REQUEST_SIZE c =
-    rw (eq-eqb _ (answer_size F) c.if-answer-ne-ANSWER_SIZE.false, ne_eqb _ (request_size F) c.if-request-ne-REQUEST_SIZE.true)
-    (refl, c.put_record.ensures ∙ ap (λ (r : Worked). record_of F (replicate event_bytes 0) 0 r) c.refused.ensures)
+pub returns-in_default : goal.returns-in_default
+returns-in_default c =
+    rw (wrong_size F c.args.request.now c.args.answer.now c.if-answer-ne-ANSWER_SIZE.false c.in_default.ensures.1)
+    (refl, c.put_record.ensures ∙ (rw c.into.ensures))
 
-pub returns : goal.returns
-unfolding record_step_of
-returns c =
-    let s = c.args.request.now in
-    rw (eq-eqb _ (answer_size F) c.if-answer-ne-ANSWER_SIZE.false, eq-eqb _ (request_size F) c.if-request-ne-REQUEST_SIZE.false) (
-      ap (λ (r : Worked). r.code) c.judged-w.ensures,
-      c.put_record-2.ensures
-          ∙ ap (λ (r : Worked). record_of F (get_or s 0 0 ∷ get_or s 1 0 ∷ get_or s 2 0 ∷ get_or s 3 0 ∷ []) (kind_of s) r) c.judged-w.ensures
-          ∙ ap (λ (e : List ℕ). record_of F e (kind_of s) (judged_of F s)) (first_four s (omega arith)),
-    )
+pub returns-in-Ok-w : goal.returns-in-Ok-w
+returns-in-Ok-w c =
+    rw (with_room F c.args.request.now c.args.answer.now c.if-answer-ne-ANSWER_SIZE.false c.in-Ok.ensures.1.long)
+    (rw c.in-Ok-w.is at
+    (answered c.args.request.now c.in-Ok.s.now _ (worked F c.judged-w.result) c.in-Ok.ensures.1.same c.judged-w.ensures c.put_record-2.ensures))
+
+pub returns-in-Err : goal.returns-in-Err
+returns-in-Err c =
+    rw (with_room F c.args.request.now c.args.answer.now c.if-answer-ne-ANSWER_SIZE.false c.in-Ok.ensures.1.long)
+    (rw c.in-Err.is at
+    (answered c.args.request.now c.in-Ok.s.now _ (worked F c.judged-w.result) c.in-Ok.ensures.1.same c.judged-w.ensures c.put_record-2.ensures))

@@ -1,21 +1,16 @@
--- The invariant: all bytes are zero exactly where those taken in have no bit and those from i on are zero.
-use Rattle.float.proofs.Words.{sym, ap, ◌∙◌, Bool, ◌&&◌, and-true, ℕ, arith, eqb}
-use Rattle.wire.specs.Bytes.{zero_from}
-use Rattle.wire.proofs.Zeros.{taken_in, none_left, zero_past}
+-- Bytes taken together bit by bit have no bit exactly where all are zero.
+use Rattle.float.proofs.Words.{ap, ◌∙◌, ℕ, ◌-◌, eqb, rules}
+use lib.Bits.{bit_or}
+use Rattle.std.proofs.lemmas.Iterator.{YieldsList-from_slice}
+use Rattle.std.proofs.lemmas.Iterator.Consumers.{fold_from_yields_List}
+use Rattle.wire.specs.Bytes.{part}
+use Rattle.wire.proofs.Zeros.{no_bit, zero_within}
 use Rattle.wire.proofs.bytes.zeros_in.Goals as goal
-
-pub loop-i-preserved : goal.loop-i-preserved
-loop-i-preserved c =
-    let l = c.loop-i in
-    l.invariant ∙ taken_in c.args.s.now l.i c.lesser-end.result l.any (omega arith) (omega arith)
 
 pub returns : goal.returns
 returns c =
-    let l = c.loop-i in
-    let end = c.lesser-end in
     let a = c.args in
-    sym (sym (zero_past a.s.now a.a a.e)
-    ∙ ap (λ (k : ℕ). zero_from a.a k a.s.now) (sym end.ensures)
-    ∙ l.invariant
-    ∙ ap (λ (t : Bool). eqb l.any 0 && t) (none_left a.s.now l.i end.result (omega arith))
-    ∙ and-true (eqb l.any 0))
+    let end = c.min-end.result in
+    let bytes = part c.min.result (end - c.min.result) a.s.now in
+    let all = fold_from_yields_List _ bit_or 0 c.fold.result c.fold.ensures.ran (YieldsList-from_slice bytes c.iter.ensures.rest) (λ a x b q k. search rules) in
+    ap (λ (n : ℕ). eqb n 0) all ∙ no_bit bytes 0 ∙ (rw (c.min.ensures, c.min-end.ensures) (zero_within a.s.now a.a a.e))

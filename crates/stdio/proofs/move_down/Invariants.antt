@@ -1,9 +1,0 @@
--- Byte i is read at or behind where it goes, so it is still the one of the beginning; what lies behind is not touched.
-use Rattle.std.proofs.Common.{◌≡◌, ◌≤◌, ◌-◌, length, take, drop}
-use Rattle.stdio.proofs.move_down.Given as goal
-
-abbrev pub invariant-loop-i : goal.invariant-loop-i
-invariant-loop-i l = (l.i ≤ l.n) × (length l.buf ≡ length l.fn.buf) × (take l.i l.buf ≡ take l.i (drop l.from l.fn.buf)) × (drop l.i l.buf ≡ drop l.i l.fn.buf)
-
-abbrev pub decreases-loop-i : goal.decreases-loop-i
-decreases-loop-i l = l.n - l.i
