@@ -1,6 +1,6 @@
 -- What a factor makes of a pivot step: with a root it goes on, and in any other case it stops with the early writes. Each pivot is above zero, at most
 -- zero or NaN, and the code of its step tells which.
-use Rattle.std.specs.Prelude.{Result, Ok}
+use Rattle.std.specs.Prelude.{Result, Ok, Err}
 use Rattle.float.proofs.Words.{◌≡◌, refl, sym, ap, ◌∙◌, List, Bool, true, false, false≢true, ⊎_elim, ℕ, arith, Float, Format, lt, le, is_nan}
 use Rattle.float.specs.Choice.{pick}
 use Rattle.float.specs.Constants.{zero_f}
@@ -11,6 +11,7 @@ use Rattle.float.proofs.Invalid.{one_of_three}
 use Rattle.cholesky.specs.Pivot.{PivotAnswer, with_root_of, without_root, pivot_answer, pivot_of, has_root, Cases}
 use Rattle.cholesky.specs.Factor.{FactorAnswer, stopped, with_root}
 use Rattle.cholesky.specs.declared.answers.FactorError.{FactorError}
+use Rattle.cholesky.specs.declared.answers.FactorError.TheVariants.{AtMostZero, NotANumber, InputNotFinite, AnswerNotFinite}
 use Rattle.cholesky.proofs.pivot.pivot_step.Reads as pivot-step
 
 module _ (f : Format) (p : Result Float FactorError) {a : PivotAnswer} (h : pivot_answer f p ≡ a) (early : List Float) (go : Float → FactorAnswer) where
@@ -19,6 +20,14 @@ module _ (f : Format) (p : Result Float FactorError) {a : PivotAnswer} (h : pivo
 
   pub stops_at : has_root (pivot_answer f p) ≡ false → stopped (pivot_answer f p) early ≡ with_root a early go
   stops_at e = rw h (rw (rw h at e))
+
+-- the cases behind the first have no root
+pub no_root : (f : Format) (p : Result Float FactorError) → ((x : Float) → p ≡ Ok x → ⊥) → has_root (pivot_answer f p) ≡ false
+no_root f (Ok x) h = absurd (h x refl)
+no_root f (Err InputNotFinite) h = refl
+no_root f (Err (AtMostZero k)) h = refl
+no_root f (Err (NotANumber k)) h = refl
+no_root f (Err AnswerNotFinite) h = refl
 
 -- ---- root, at most zero, NaN: each pivot is in exactly one of the three cases, and its case is told by its number
 

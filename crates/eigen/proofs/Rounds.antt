@@ -5,8 +5,10 @@ use Rattle.float.specs.Width.{F}
 use Rattle.float.specs.Constants.{limit_f}
 use Rattle.matrix.specs.Symmetric.{Sym3}
 use Rattle.matrix.specs.Square.{Mat3, mat3, identity_of}
+use Rattle.jacobi.specs.Pairs.{turned_of}
 use Rattle.jacobi.specs.Run.{one_more}
 use Rattle.jacobi.specs.Blind.{Watched, watched_step}
+use Rattle.jacobi.specs.declared.made.Made.{Made}
 use Rattle.jacobi.specs.declared.pairs.Pair.{Pair}
 use Rattle.jacobi.specs.declared.rotation.Rotation.{Rotation}
 use Rattle.jacobi.specs.declared.pairs.OffDiag.{OffDiag}
@@ -32,12 +34,32 @@ bare_step f = watched_step (bare_step_of f) (λ (s : BareState). settled_of f s.
 abbrev pub bare_done : Format → Watched BareState → Bool
 bare_done f w = settled_of f w.state.matrix
 
+-- what a loop holds, as such a state
+abbrev pub full_state : Sym3 → Mat3 → Made → Bool → Watched State
+full_state b v m blind = record { state = record { matrix = b.«data»; vectors = v.«data»; made = m }; blind = blind }
+
+abbrev pub bare_state : Sym3 → Made → Bool → Watched BareState
+bare_state b m blind = record { state = record { matrix = b.«data»; made = m }; blind = blind }
+
 -- ---- one of them
 
 module _ (f : Format) (a : List Float) {largest : OffDiag} (is : largest ≡ off_diag_of a) where
   pub tested : {t : Bool} → t ≡ lt largest.size (limit_f f) → t ≡ settled_of f a
   unfolding settled_of
   tested e = e ∙ ap (λ (o : OffDiag). lt o.size (limit_f f)) is
+
+  module _ (m : Made) (b : Bool) {t : Turned} (turned : t ≡ turned_pair f largest.pair a) where
+    pub next_bare :
+        ◌≡◌ {A = Watched BareState} (record { state = record { matrix = t.a.«data»; made = one_more m }; blind = b || t.blind })
+        (bare_step f (record { state = record { matrix = a; made = m }; blind = b }))
+    unfolding bare_step_of next_matrix blind_at
+    next_bare = rw (turned, is)
+
+    pub next_state : (v : List Float) {w : Mat3} → w ≡ mat3 (turned_of f largest.pair t.r.c t.r.s v) →
+        ◌≡◌ {A = Watched State} (record { state = record { matrix = t.a.«data»; vectors = w.«data»; made = one_more m }; blind = b || t.blind })
+        (full_step f (record { state = record { matrix = a; vectors = v; made = m }; blind = b }))
+    unfolding step_of next_matrix next_vectors blind_at
+    next_state v e = rw (e, turned, is)
 
 pub next_carried : {V : Type 0} (turn : Pair → Rotation → V → V) (w : Working V) {o : OffDiag} → o ≡ off_diag_of w.a.«data»
     → {t : Turned} → t ≡ turned_pair F o.pair w.a.«data» → {v : V} → v ≡ turn o.pair t.r w.v

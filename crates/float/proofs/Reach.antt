@@ -76,6 +76,9 @@ module _ (f : Format) (w : Width) (room : low f < 2 ^ hbits w) (k r : ℤ) (h : 
     pub opposite_held : to_z w (of_z w (pos 0 -ℤ to_z w (of_z w r))) ≡ neg_ℤ (limited f k)
     opposite_held = to_z-of_z w (pos 0 -ℤ to_z w (of_z w r)) opposite_fits ∙ opposite_is
 
+    pub opposite_in_reach : InReach f (to_z w (of_z w (pos 0 -ℤ to_z w (of_z w r))))
+    opposite_in_reach = rw opposite_held opposite_reach
+
 pub reach_place : (f : Format) (k : ℤ) (j : ℕ) → InReach f k → pos j ≡ k +ℤ pos (low f) → (k ≡ minus j (low f)) × (j ≤ low f + emax f)
 reach_place f (pos n) j t e =
     let d : j ≡ n + low f = cc in

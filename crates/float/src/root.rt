@@ -23,9 +23,9 @@ use crate::width::{
 
 // A whole root and what is left beyond its square.
 #[derive(Clone, Copy)]
-struct Whole {
-    q: Bits,
-    left: Bits,
+pub struct Whole {
+    pub q: Bits,
+    pub left: Bits,
 }
 
 // The whole root of m * 2^DIGITS, one binary digit a pass: `left` takes the next two digits of m * 2^DIGITS, of which `rest` holds
@@ -52,9 +52,9 @@ fn whole_root(m: Bits) -> Whole
 
 // m * 4^j, with j such that it has PRECISION digits or one more.
 #[derive(Clone, Copy)]
-struct Scaled {
-    m: Bits,
-    j: Bits,
+pub struct Scaled {
+    pub m: Bits,
+    pub j: Bits,
 }
 
 fn scaled_up(m: Bits) -> Scaled

@@ -20,8 +20,10 @@ pub const LOWEST: Exponent = -1074;
 
 pub const BIAS: Exponent = 1075;
 
-// The exponent of the largest numbers.
+// The exponent of the largest numbers, and the highest place of a word.
 pub const GREATEST: Exponent = 1023;
+
+pub const LAST_PLACE: Bits = 63;
 
 // Half of the field of a number from 1 up to 2, rounded down.
 pub const HALF_BIAS: Bits = 511;

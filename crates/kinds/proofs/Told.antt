@@ -1,6 +1,7 @@
 -- A kind is told by its row of the table, and what a kind answers by what is told of it.
-use Rattle.float.proofs.Words.{◌≡◌, refl, sym, ap, ◌∙◌, Bool, true, false, [], ◌∷◌, ℕ, arith, eqb, eqb-false, get_or}
-use Rattle.std.specs.Prelude.{Result, Ok, Err}
+use Rattle.float.proofs.Words.{◌≡◌, refl, sym, ap, ◌∙◌, Bool, true, false, [], ◌∷◌, ℕ, arith, eqb, eqb-false, ne_eqb, get_or}
+use Rattle.std.specs.Prelude.{Option, Some, None, Result, Ok, Err}
+use Rattle.float.specs.Choice.{pick}
 use Rattle.float.specs.Width.{F}
 use Rattle.matrix.specs.declared.codes.Refusal.{Refusal}
 use Rattle.matrix.proofs.Refusals.{number_above, number_of_one}
@@ -8,9 +9,10 @@ use Rattle.jacobi.specs.Blind.{mark_of}
 use Rattle.kinds.specs.Table.{unknown}
 use Rattle.kinds.specs.Table.{Kind as TableKind}
 use Rattle.kinds.specs.Work.{WorkedAnswer}
-use Rattle.kinds.specs.Read.{row_of, whole_worked, worked}
+use Rattle.kinds.specs.Read.{row_of, columns, row_or_none, numbered_row, with_code, whole_worked, worked}
 use Rattle.kinds.specs.declared.table.Kind.{Kind}
 use Rattle.kinds.specs.declared.table.Kind.TheVariants.{Eigen2x2, Eigen3x3, Svd2x2, Svd3x3, Factor2x2, Factor3x3, Solve2x2, Solve3x3}
+use Rattle.kinds.specs.declared.table.Numbered.{Numbered}
 use Rattle.kinds.specs.declared.work.Worked.{Worked}
 use Rattle.kinds.specs.declared.work.Refused.{Refused}
 use Rattle.kinds.proofs.Named.{row_known}
@@ -36,6 +38,24 @@ row_one x y e = sym (told_by_row x) ∙ ap (λ (k : TableKind). with_number k.nu
 pub row_some : (k : Kind) → row_of k ≡ unknown → ⊥
 row_some k e = eqb-false (row_of k).number 0 (row_known k) (ap (λ (r : TableKind). r.number) e)
 
+-- ---- the row of any number: its kind by its number, and the columns
+
+abbrev with_number_or_none : ℕ → Option Kind
+with_number_or_none n = pick (eqb n 0) None (Some (with_number n))
+
+told_or_none : (o : Option Kind) → with_number_or_none (row_or_none o).number ≡ o
+told_or_none (Some k) = rw (ne_eqb (row_of k).number 0 (eqb-false (row_of k).number 0 (row_known k)), told_by_row k) refl
+told_or_none None = refl
+
+abbrev unnumbered : TableKind → Numbered
+unnumbered k = record { kind = with_number_or_none k.number; row = columns k }
+
+unnumbered_is : (r : Numbered) → unnumbered (numbered_row r) ≡ r
+unnumbered_is r = ap (λ (o : Option Kind). record { kind = o; row = r.row }) (told_or_none r.kind)
+
+pub numbered_one : (r q : Numbered) → numbered_row r ≡ numbered_row q → r ≡ q
+numbered_one r q e = sym (unnumbered_is r) ∙ ap unnumbered e ∙ unnumbered_is q
+
 -- ---- what a kind answers
 
 abbrev untold : WorkedAnswer → Worked
@@ -47,6 +67,15 @@ marked false = refl
 
 untold_is : (w : Worked) → untold (whole_worked w) ≡ w
 untold_is w = ap (λ (b : Bool). record { count = w.count; settled = b; values = w.values; left = w.left; right = w.right }) (marked w.settled)
+
+pub whole_worked_one : (v w : Worked) → whole_worked v ≡ whole_worked w → v ≡ w
+whole_worked_one v w e = sym (untold_is v) ∙ ap untold e ∙ untold_is w
+
+pub with_code_one : (r q : ℕ × Worked) → with_code r.0 r.1 ≡ with_code q.0 q.1 → r ≡ q
+with_code_one r q e =
+    let code : r.0 ≡ q.0 = ap (λ (w : WorkedAnswer). w.code) e in
+    let w : r.1 ≡ q.1 = sym (untold_is r.1) ∙ ap untold e ∙ untold_is q.1 in
+    ap (λ (k : ℕ). (k, r.1)) code ∙ ap (λ (x : Worked). (q.0, x)) w
 
 abbrev untold_refused : WorkedAnswer → Refusal → Refused
 untold_refused w why = record { why = why; pivot = w.count }

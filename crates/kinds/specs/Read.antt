@@ -1,15 +1,16 @@
 -- A kind, its way, what is asked of it and what it answers, as the code has them, read as the definitions have them. Definitions only.
-use Rattle.std.specs.Prelude.{◌&&◌, List, ℕ, eqb, Result, Ok, Err, Float}
+use Rattle.std.specs.Prelude.{◌&&◌, List, ℕ, eqb, Option, Some, None, Result, Ok, Err, Float}
 use Rattle.std.specs.Float.{Format}
 use Rattle.float.specs.Choice.{pick}
 use Rattle.matrix.specs.Codes.{number_of}
 use Rattle.matrix.specs.declared.codes.Refusal.{Refusal}
 use Rattle.matrix.specs.declared.codes.Refusal.TheVariants.{Reserved}
 use Rattle.jacobi.specs.Blind.{mark_of}
-use Rattle.kinds.specs.Table.{Kind, kind_numbered, known_way}
+use Rattle.kinds.specs.Table.{Kind, row, unknown, kind_numbered, known_way}
 use Rattle.kinds.specs.Work.{Asked, WorkedAnswer, refused_kind}
 use Rattle.kinds.specs.declared.table.Kind.{Kind as NamedKind}
 use Rattle.kinds.specs.declared.table.Kind.TheVariants.{Eigen2x2, Eigen3x3, Svd2x2, Svd3x3, Factor2x2, Factor3x3, Solve2x2, Solve3x3}
+use Rattle.kinds.specs.declared.table.Numbered.{Numbered}
 use Rattle.kinds.specs.declared.table.Row.{Row}
 use Rattle.kinds.specs.declared.table.Way.{Way}
 use Rattle.kinds.specs.declared.table.Way.TheVariants.{Scaled, AsGiven}
@@ -34,6 +35,16 @@ row_of k = kind_numbered (number_of_kind k)
 -- what the code has of a row
 abbrev pub columns : Kind → Row
 columns k = record { nine = k.nine; three = k.three; counts = k.counts; scales = k.scales }
+
+-- the row of a number that a kind has, and of one that none has
+abbrev pub row_or_none : Option NamedKind → Kind
+row_or_none (Some k) = row_of k
+row_or_none None = unknown
+
+-- what the code has of any number's row, with the number and the kernel of its kind
+abbrev pub numbered_row : Numbered → Kind
+numbered_row r =
+    row (row_or_none r.kind).number r.row.nine r.row.three r.row.counts r.row.scales (row_or_none r.kind).kernel
 
 -- the way that a request's byte names, if it is one of the kind's: with 0 the matrix of a kind that scales is scaled
 abbrev pub way_of_byte : Kind → ℕ → Result Way Refusal

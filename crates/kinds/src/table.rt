@@ -1,8 +1,8 @@
 // The kinds of requests, one row each.
 ghost use Rattle.std.specs.Prelude.{◌≡◌, MatchResult};
 ghost use Rattle.matrix.specs.declared.codes.Refusal.TheVariants.{UnknownKind};
-ghost use Rattle.kinds.specs.Table.{kind_numbered, unknown};
-ghost use Rattle.kinds.specs.Read.{number_of_kind, row_of, columns, way_of_byte};
+ghost use Rattle.kinds.specs.Table.{kind_numbered, unknown, known_kind, known_way};
+ghost use Rattle.kinds.specs.Read.{number_of_kind, row_of, columns, numbered_row, way_of_byte};
 
 use matrix::codes::Refusal;
 
@@ -96,5 +96,50 @@ impl Kind {
             (0, false) | (1, true) => Ok(Way::AsGiven),
             _ => Err(Refusal::Reserved),
         }
+    }
+}
+
+// The kind of a number, if a kind has it, and its row; what has no kind uses, counts and scales nothing.
+#[derive(Clone, Copy, Debug, PartialEq, Eq)]
+pub struct Numbered {
+    pub kind: Option<Kind>,
+    pub row: Row,
+}
+
+// The row of any number.
+pub fn kind_numbered(n: u8) -> Numbered
+    ensures { numbered_row result ≡ kind_numbered n }
+{
+    match Kind::try_from(n) {
+        Ok(k) => Numbered {
+            kind: Some(k),
+            row: k.row(),
+        },
+        Err(_) => Numbered {
+            kind: None,
+            row: Row {
+                nine: 0,
+                three: 0,
+                counts: false,
+                scales: false,
+            },
+        },
+    }
+}
+
+pub fn is_known(n: u8) -> bool
+    ensures { result ≡ known_kind n }
+{
+    Kind::try_from(n).is_ok()
+}
+
+// Whether a number's kind has the way: 0, and 1 too where its matrix is scaled.
+pub fn has_way(n: u8, way: u8) -> bool
+    ensures { result ≡ known_way n way }
+{
+    if kind_numbered(n).row.scales {
+        way <= 1
+    } else {
+        way == 0
     }
 }

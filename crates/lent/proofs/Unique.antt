@@ -1,12 +1,12 @@
 -- Any two answers within the promise of a public function are equal. Each promise is read from the source, as a caller reads it.
 use Rattle.std.proofs.Common.{Result}
-use Rattle.float.proofs.Words.{refl, sym, ap, ◌∙◌, List, ℕ, Float}
+use Rattle.float.proofs.Words.{sym, ◌∙◌}
 use contract.Lifetimes.{Lfts}
 use Rattle.float.specs.OneAnswer.{OneAnswer, OneOutcome}
-use Rattle.matrix.specs.Answer.{Answer, done, refused}
-use Rattle.matrix.specs.Symmetric.{Sym3, sym3}
-use Rattle.matrix.specs.declared.codes.Refusal.{Refusal}
-use Rattle.matrix.proofs.Refusals.{code_of_one, told_by_code}
+use Rattle.matrix.specs.Symmetric.{Sym3}
+use Rattle.matrix.specs.declared.answers.Unchanged.{Unchanged}
+use Rattle.matrix.proofs.Readings.{named_written}
+use Rattle.matrix.proofs.Refusals.{code_of_one}
 use Rattle.jacobi.specs.declared.pairs.Pair.{Pair}
 use Rattle.jacobi.specs.declared.rotation.Rotation.{Rotation}
 use Rattle.lent.proofs.rotate_in_place.Reads as rotate-in-place
@@ -15,7 +15,6 @@ use Rattle.lent.proofs.rotate.Reads as rotate
 pub one_rotate_in_place : (κs : Lfts 1) (a : _) → OneOutcome (rotate-in-place.Post κs a) (λ s. s.0.now)
 one_rotate_in_place κs a r q s t p u = (code_of_one (p.0 ∙ sym u.0), p.1 ∙ sym u.1)
 
-pub one_rotate : (a : Sym3) (p : Pair) (t : Rotation) → OneAnswer (λ (r : Result Sym3 Refusal). rotate.Post tt (a, (p, (t, tt))) r (a, (p, (t, tt))))
-one_rotate a p t r q m n =
-    told_by_code (λ (w : Answer (List Float)). w.code) (λ (k : ℕ). refused k a.«data») (λ (m : Sym3). done m.«data») (λ k. refl) (λ m. refl)
-    (λ x y e. ap (λ (w : Answer (List Float)). sym3 w.value) e) r q (m ∙ sym n)
+pub one_rotate : (a : Sym3) (p : Pair) (t : Rotation)
+    → OneAnswer (λ (r : Result Sym3 (Unchanged Sym3)). rotate.Post tt (a, (p, (t, tt))) r (a, (p, (t, tt))))
+one_rotate a p t = named_written _

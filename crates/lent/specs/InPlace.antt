@@ -1,11 +1,9 @@
 -- A checked rotation of a matrix in its place: the code, and the numbers that stand there afterwards. Definitions only.
-use Rattle.std.specs.Prelude.{◌≡◌, List, [], ◌∷◌, ℕ, Float, Result}
+use Rattle.std.specs.Prelude.{◌≡◌, List, [], ◌∷◌, ℕ, Float}
 use Rattle.std.specs.Float.{Format}
 use Rattle.float.specs.Choice.{pick}
 use Rattle.float.specs.Sign.{all_finite}
 use Rattle.matrix.specs.Answer.{Answer, done, refused}
-use Rattle.matrix.specs.Codes.{told}
-use Rattle.matrix.specs.declared.codes.Refusal.{Refusal}
 use Rattle.matrix.specs.Symmetric.{Sym3, sym3}
 use Rattle.jacobi.specs.declared.rotation.Rotation.{Rotation}
 use Rattle.eigen.specs.Pairs.{applied_of}
@@ -22,10 +20,6 @@ rotated_of f p r a =
     (pick (all_finite (r.c ∷ r.s ∷ r.t ∷ []))
     (replaced_by (applied_of f p r a) a)
     (refused 5 a)) (refused 5 a)
-
--- what is told of a call on a copy of the numbers a, which a refusal leaves
-abbrev pub rotated_answer : List Float → Result Sym3 Refusal → Answer (List Float)
-rotated_answer a r = told (λ (k : ℕ). refused k a) (λ (m : Sym3). done m.«data») r
 
 -- what a call on a lent matrix promises: the code, and the matrix at exit
 abbrev pub Left : Answer (List Float) → ℕ → Sym3 → Type 0

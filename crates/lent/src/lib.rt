@@ -4,12 +4,14 @@
 ghost use Rattle.std.specs.Prelude.{◌≡◌};
 ghost use Rattle.float.specs.Width.{F};
 ghost use Rattle.matrix.specs.Codes.{code_of};
-ghost use Rattle.lent.specs.InPlace.{rotated_of, Left, rotated_answer};
+ghost use Rattle.matrix.specs.Indexed.{written};
+ghost use Rattle.lent.specs.InPlace.{rotated_of, Left};
 
 use eigen::pairs::apply_rotation;
 use float::sign::all_finite;
 use jacobi::pairs::Pair;
 use jacobi::rotation::Rotation;
+use matrix::answers::Unchanged;
 use matrix::codes::Refusal;
 use matrix::symmetric::Sym3;
 
@@ -29,10 +31,12 @@ pub fn rotate_in_place(a: &mut Sym3, p: Pair, r: Rotation) -> Result<(), Refusal
     Ok(())
 }
 
-// The same on a copy, which it lends.
-pub fn rotate(mut a: Sym3, p: Pair, r: Rotation) -> Result<Sym3, Refusal>
-    ensures { rotated_answer a.«data» result ≡ rotated_of F p r a.«data» }
+// The same on a copy, which it lends. A refusal hands the copy back as it was left.
+pub fn rotate(mut a: Sym3, p: Pair, r: Rotation) -> Result<Sym3, Unchanged<Sym3>>
+    ensures { written result ≡ rotated_of F p r a.«data» }
 {
-    rotate_in_place(&mut a, p, r)?;
-    Ok(a)
+    match rotate_in_place(&mut a, p, r) {
+        Ok(()) => Ok(a),
+        Err(why) => Err(Unchanged { why, matrix: a }),
+    }
 }

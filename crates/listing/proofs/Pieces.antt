@@ -1,7 +1,6 @@
 -- The pieces of a listing: what the code puts is what the definition has in its place.
-use Rattle.float.proofs.Words.{◌≡◌, ap, ◌∙◌, subst, List, ℕ, suc, ◌+◌, ◌-◌, ◌*◌, ◌/◌, ◌≤◌, ◌<◌, ◌++◌, append_assoc, zero-add, arith}
-use Rattle.float.proofs.Words.{length, length-append, length-take, length-drop, take, drop, drop-drop}
-use Rattle.std.proofs.lemmas.List.{drop-take, take-take}
+use Rattle.float.proofs.Words.{◌≡◌, ap, ◌∙◌, List, ℕ, suc, ◌+◌, ◌-◌, ◌*◌, ◌/◌, ◌≤◌, ◌<◌, ◌++◌, append_assoc, zero-add, arith}
+use Rattle.float.proofs.Words.{length, length-append, length-take, length-drop, take, drop}
 use Rattle.kinds.specs.Table.{kinds}
 use Rattle.std.specs.Simd.{first_chunks}
 use Rattle.counts.specs.Known.{most_turns}
@@ -10,14 +9,8 @@ use Rattle.listing.specs.Text.{decimal_of, counts_line, lines_of}
 use Rattle.listing.specs.Putting.{block_of}
 use Rattle.listing.specs.Page.{heading, turns_heading, kind_line, turns_line, kind_lines, turns_lines, other_line, total_line, records_line, foreign_line}
 use Rattle.listing.specs.Page.{left_line, rows_text, sums_text, turns_text, listing_of}
+use Rattle.wire.proofs.Parts.{part_in}
 use Rattle.listing.proofs.Blocks.{block_lines, lines_same}
-
--- a part of a part
-part_in : (t : List ℕ) (a m w j : ℕ) → j + w ≤ m → take w (drop j (take m (drop a t))) ≡ take w (drop (a + j) t)
-part_in t a m w j h =
-    let e : j + (m - j) ≡ m = omega arith in
-    subst (λ (n : ℕ). take w (drop j (take n (drop a t))) ≡ take w (drop (a + j) t)) e
-    (ap (take w) (drop-take j (m - j) (drop a t)) ∙ take-take w (m - j) (drop j (drop a t)) (omega arith) ∙ ap (take w) (drop-drop j a t))
 
 pub kinds_block : (t : List ℕ) → block_of 1 (first_chunks columns (length kinds) (take (turns_at - columns) (drop columns t))) ≡ kind_lines t
 unfolding kind_lines

@@ -9,18 +9,21 @@ use mir.Syntax.{w64, Dict}
 use mir.Val.{Fits}
 use Rattle.float.specs.Width.{F}
 use Rattle.float.specs.OneAnswer.{OneAnswer, OneOutcome}
-use Rattle.float.proofs.OneAnswer.{named}
+use Rattle.float.proofs.OneAnswer.{named, both_named}
 use Rattle.matrix.specs.Square.{Mat2, Mat3}
 use Rattle.matrix.specs.Symmetric.{Sym2, Sym3}
+use Rattle.matrix.specs.declared.answers.Unchanged.{Unchanged}
 use Rattle.matrix.specs.declared.codes.Refusal.{Refusal}
 use Rattle.matrix.specs.declared.shape.DenseMatrixN.{DenseMatrixN}
 use Rattle.matrix.specs.declared.shape.DenseMatrixSymN.{DenseMatrixSymN}
 use Rattle.matrix.specs.declared.square.Size.{Size}
-use Rattle.matrix.proofs.Readings.{named_place, named_entry, named_scalar, named_answered, named_moved, named_packed}
+use Rattle.matrix.proofs.Readings.{named_place, named_entry, named_scalar, named_answered, named_moved, named_written, named_packed}
 use Rattle.matrix.proofs.Refusals.{code_named}
 use Rattle.matrix.proofs.answers.judge.Reads as judge
 use Rattle.matrix.proofs.answers.judge_all.Reads as judge-all
 use Rattle.matrix.proofs.answers.put.Reads as put
+use Rattle.matrix.proofs.answers.put_coded.Reads as put-coded
+use Rattle.matrix.proofs.codes.U8FromRefusal.from.Reads as u8-from
 use Rattle.matrix.proofs.codes.code_of.Reads as code-of
 use Rattle.matrix.proofs.shape.DenseMatrixN.dim.Reads as square-dim
 use Rattle.matrix.proofs.shape.DenseMatrixN.size.Reads as square-size
@@ -64,6 +67,12 @@ one_judge_all n p κs a e = named_answered _ _
 pub one_put : (n : ℕ) (p : Fits w64 n) (κs : Lfts 2) (a : _) → OneOutcome (put.Post n p κs a) (λ s. s.0.now)
 one_put n p κs a = code_named _ _ (λ s. s.0.now)
 
+pub one_put_coded : (n : ℕ) (p : Fits w64 n) (κs : Lfts 2) (a : _) → OneOutcome (put-coded.Post n p κs a) (λ s. s.0.now)
+one_put_coded n p κs a = both_named _ _ (λ s. s.0.now)
+
+pub one_u8_from : (e : Refusal) → OneAnswer (λ (r : ℕ). u8-from.Post tt (e, tt) r (e, tt))
+one_u8_from e = named _
+
 pub one_code_of : (T : RattleType) (laws : Laws T) (drop : Dict) (κs : Lfts 1) (a : _) (e : _) → OneAnswer (λ (r : ℕ). code-of.Post T laws drop κs a r e)
 one_code_of T laws drop κs a e = named _
 
@@ -86,8 +95,8 @@ pub one_square_index : (n s : ℕ) (p : Fits w64 n) (q : Fits w64 s) (κs : Lfts
 one_square_index n s p q κs a e = named_entry F _
 
 pub one_square_index_mut : (n s : ℕ) (p : Fits w64 n) (q : Fits w64 s) (κs : Lfts 2) (a : _) (e : _)
-    → OneAnswer (λ (r : Result (DenseMatrixN n s) Refusal). square-index-mut.Post n s p q κs a r e)
-one_square_index_mut n s p q κs a e = named_moved _ _
+    → OneAnswer (λ (r : Result (DenseMatrixN n s) (Unchanged (DenseMatrixN n s))). square-index-mut.Post n s p q κs a r e)
+one_square_index_mut n s p q κs a e = named_moved _
 
 pub one_square_set_identity : (n s : ℕ) (p : Fits w64 n) (q : Fits w64 s) (κs : Lfts 2) (a : _) (e : _)
     → OneAnswer (λ (r : DenseMatrixN n s). square-set-identity.Post n s p q κs a r e)
@@ -110,12 +119,12 @@ pub one_square_swap12 : (n s : ℕ) (p : Fits w64 n) (q : Fits w64 s) (κs : Lft
 one_square_swap12 n s p q κs a e = named _
 
 pub one_square_flip_column : (n s : ℕ) (p : Fits w64 n) (q : Fits w64 s) (κs : Lfts 2) (a : _) (e : _)
-    → OneAnswer (λ (r : Result (DenseMatrixN n s) Refusal). square-flip-column.Post n s p q κs a r e)
-one_square_flip_column n s p q κs a e = named_moved _ _
+    → OneAnswer (λ (r : Result (DenseMatrixN n s) (Unchanged (DenseMatrixN n s))). square-flip-column.Post n s p q κs a r e)
+one_square_flip_column n s p q κs a e = named_moved _
 
 pub one_square_swap_columns : (n s : ℕ) (p : Fits w64 n) (q : Fits w64 s) (κs : Lfts 2) (a : _) (e : _)
-    → OneAnswer (λ (r : Result (DenseMatrixN n s) Refusal). square-swap-columns.Post n s p q κs a r e)
-one_square_swap_columns n s p q κs a e = named_moved _ _
+    → OneAnswer (λ (r : Result (DenseMatrixN n s) (Unchanged (DenseMatrixN n s))). square-swap-columns.Post n s p q κs a r e)
+one_square_swap_columns n s p q κs a e = named_moved _
 
 pub one_square_mul : (n s : ℕ) (p : Fits w64 n) (q : Fits w64 s) (κs : Lfts 4) (a : _)
     → OneOutcome (square-mul.Post n s p q κs a) (λ s. s.1.0.now)
@@ -155,8 +164,8 @@ pub one_packed_index : (n s : ℕ) (p : Fits w64 n) (q : Fits w64 s) (κs : Lfts
 one_packed_index n s p q κs a e = named_entry F _
 
 pub one_packed_index_mut : (n s : ℕ) (p : Fits w64 n) (q : Fits w64 s) (κs : Lfts 2) (a : _) (e : _)
-    → OneAnswer (λ (r : Result (DenseMatrixSymN n s) Refusal). packed-index-mut.Post n s p q κs a r e)
-one_packed_index_mut n s p q κs a e = named_packed _ _
+    → OneAnswer (λ (r : Result (DenseMatrixSymN n s) (Unchanged (DenseMatrixSymN n s))). packed-index-mut.Post n s p q κs a r e)
+one_packed_index_mut n s p q κs a e = named_written _
 
 pub one_packed_copy_from : (n s : ℕ) (p : Fits w64 n) (q : Fits w64 s) (κs : Lfts 2) (a : _) (e : _)
     → OneAnswer (λ (r : DenseMatrixSymN n s). packed-copy-from.Post n s p q κs a r e)

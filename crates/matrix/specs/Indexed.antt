@@ -1,14 +1,15 @@
 -- Calls that name a row or a column: answered only below the size n, and refused with 8 otherwise. Definitions only.
-use Rattle.std.specs.Prelude.{List, ℕ, ltb, set, Float, Result}
+use Rattle.std.specs.Prelude.{List, ℕ, ltb, set, Float, Result, Ok, Err}
 use Rattle.std.specs.Float.{Format}
 use Rattle.float.specs.Choice.{pick}
 use Rattle.float.specs.Constants.{zero_f}
 use Rattle.matrix.specs.Answer.{Answer, done, refused}
 use Rattle.matrix.specs.Places.{at}
+use Rattle.matrix.specs.declared.answers.Unchanged.{Unchanged}
 use Rattle.matrix.specs.declared.codes.Refusal.{Refusal}
 use Rattle.matrix.specs.declared.shape.DenseMatrixN.{DenseMatrixN}
 use Rattle.matrix.specs.declared.shape.DenseMatrixSymN.{DenseMatrixSymN}
-use Rattle.matrix.specs.Codes.{told}
+use Rattle.matrix.specs.Codes.{number_of, told}
 use Rattle.matrix.specs.Square.{Mat2, Mat3, mat2, mat3, exchange_of, negate_of}
 use Rattle.matrix.specs.Symmetric.{Sym2, Sym3, sym2, sym3}
 
@@ -35,11 +36,19 @@ swap_columns_of n i j xs = inside n i j (exchange_of n i j xs) xs
 unfoldable pub flip_column_of : ℕ → ℕ → List Float → Answer (List Float)
 flip_column_of n i xs = pick (ltb i n) (done (negate_of n i xs)) (refused 8 xs)
 
--- ---- the numbers of the matrix that a call hands out, or xs where it is refused
+-- ---- the numbers of the matrix that a call hands out, or hands back where it is refused
 
-abbrev pub moved_or : {n s : ℕ} → List Float → Result (DenseMatrixN n s) Refusal → Answer (List Float)
-moved_or xs r = told (λ (k : ℕ). refused k xs) (λ m. done m.«data») r
+abbrev pub handed : {M : Type 0} → (M → List Float) → Result M (Unchanged M) → Answer (List Float)
+handed numbers (Ok m) = done (numbers m)
+handed numbers (Err e) = refused (number_of e.why) (numbers e.matrix)
 
+abbrev pub moved : {n s : ℕ} → Result (DenseMatrixN n s) (Unchanged (DenseMatrixN n s)) → Answer (List Float)
+moved r = handed (λ m. m.«data») r
+
+abbrev pub written : {n s : ℕ} → Result (DenseMatrixSymN n s) (Unchanged (DenseMatrixSymN n s)) → Answer (List Float)
+written r = handed (λ m. m.«data») r
+
+-- those of the matrix that a call hands out, or xs where it is refused
 abbrev pub packed_or : {n s : ℕ} → List Float → Result (DenseMatrixSymN n s) Refusal → Answer (List Float)
 packed_or xs r = told (λ (k : ℕ). refused k xs) (λ m. done m.«data») r
 

@@ -7,11 +7,11 @@ ghost use Rattle.float.specs.Width.{F};
 ghost use Rattle.matrix.specs.Answer.{Outcome, answered, place, entry};
 ghost use Rattle.matrix.specs.Codes.{code_of};
 ghost use Rattle.matrix.specs.Places.{zeros, at, square_index};
-ghost use Rattle.matrix.specs.Indexed.{index_of, read_of, write_of, moved_or, swap_columns_of, flip_column_of};
+ghost use Rattle.matrix.specs.Indexed.{index_of, read_of, write_of, moved, swap_columns_of, flip_column_of};
 ghost use Rattle.matrix.specs.Square.{mat2, mat3, square_with, square_of, entry_of, identity_of, transpose_of, exchanged, exchange_of, negate_of};
 ghost use Rattle.matrix.specs.Arithmetic.{sum_of, times_of, product_of, mul_of};
 
-use crate::answers::{judge_all, put};
+use crate::answers::{Unchanged, judge_all, put};
 use crate::codes::Refusal;
 use crate::shape::DenseMatrixN;
 use float::sign::both_finite;
@@ -61,12 +61,15 @@ impl<const N: usize, const S: usize> DenseMatrixN<N, S> {
     }
 
     // The matrix with x at (r, c).
-    pub fn index_mut(self, r: usize, c: usize, x: Real) -> Result<Self, Refusal>
-        ensures { moved_or self.entry.«data» result ≡ write_of N r c (square_index N r c) x self.entry.«data» }
+    pub fn index_mut(self, r: usize, c: usize, x: Real) -> Result<Self, Unchanged<Self>>
+        ensures { moved result ≡ write_of N r c (square_index N r c) x self.entry.«data» }
     {
         let mut data = self.data;
         let Some(i) = self.index_linear(r, c) else {
-            return Err(Refusal::Outside);
+            return Err(Unchanged {
+                why: Refusal::Outside,
+                matrix: DenseMatrixN { data },
+            });
         };
         data[i] = x;
         Ok(DenseMatrixN { data })
@@ -153,23 +156,29 @@ impl<const N: usize, const S: usize> DenseMatrixN<N, S> {
         )
     }
 
-    pub fn flip_column(self, i: usize) -> Result<Self, Refusal>
-        ensures { moved_or self.entry.«data» result ≡ flip_column_of N i self.entry.«data» }
+    pub fn flip_column(self, i: usize) -> Result<Self, Unchanged<Self>>
+        ensures { moved result ≡ flip_column_of N i self.entry.«data» }
     {
         if i < N {
             Ok(self.negated(i))
         } else {
-            Err(Refusal::Outside)
+            Err(Unchanged {
+                why: Refusal::Outside,
+                matrix: self,
+            })
         }
     }
 
-    pub fn swap_columns(self, i: usize, j: usize) -> Result<Self, Refusal>
-        ensures { moved_or self.entry.«data» result ≡ swap_columns_of N i j self.entry.«data» }
+    pub fn swap_columns(self, i: usize, j: usize) -> Result<Self, Unchanged<Self>>
+        ensures { moved result ≡ swap_columns_of N i j self.entry.«data» }
     {
         if i < N && j < N {
             Ok(self.exchanged(i, j))
         } else {
-            Err(Refusal::Outside)
+            Err(Unchanged {
+                why: Refusal::Outside,
+                matrix: self,
+            })
         }
     }
 

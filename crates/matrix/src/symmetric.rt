@@ -3,11 +3,11 @@ ghost use Rattle.std.specs.Prelude.{◌≡◌, ◌≤◌};
 ghost use Rattle.float.specs.Width.{F};
 ghost use Rattle.matrix.specs.Answer.{place, entry};
 ghost use Rattle.matrix.specs.Places.{zeros, triangular, packed_index};
-ghost use Rattle.matrix.specs.Indexed.{index_of, read_of, write_of, packed_or};
+ghost use Rattle.matrix.specs.Indexed.{index_of, read_of, write_of, written, packed_or};
 ghost use Rattle.matrix.specs.Symmetric.{sym2, sym3};
 ghost use Rattle.matrix.specs.Arithmetic.{scaled_from_of};
 
-use crate::answers::judge_all;
+use crate::answers::{Unchanged, judge_all};
 use crate::codes::Refusal;
 use crate::shape::DenseMatrixSymN;
 use crate::square::Size;
@@ -60,12 +60,15 @@ impl<const N: usize, const S: usize> DenseMatrixSymN<N, S> {
     }
 
     // The matrix with x at (r, c) and (c, r).
-    pub fn index_mut(self, r: usize, c: usize, x: Real) -> Result<Self, Refusal>
-        ensures { packed_or self.entry.«data» result ≡ write_of N r c (packed_index r c) x self.entry.«data» }
+    pub fn index_mut(self, r: usize, c: usize, x: Real) -> Result<Self, Unchanged<Self>>
+        ensures { written result ≡ write_of N r c (packed_index r c) x self.entry.«data» }
     {
         let mut data = self.data;
         let Some(i) = self.index_linear(r, c) else {
-            return Err(Refusal::Outside);
+            return Err(Unchanged {
+                why: Refusal::Outside,
+                matrix: DenseMatrixSymN { data },
+            });
         };
         data[i] = x;
         Ok(DenseMatrixSymN { data })

@@ -1,6 +1,7 @@
 // An answer, word by word. Real is f64 (float::width).
 use float::bits::to_bits;
 use float::width::Real;
+use matrix::answers::Unchanged;
 use matrix::codes::{DONE, Refusal};
 
 // The most words of an answer.
@@ -53,6 +54,20 @@ impl Answer {
             Err(why) => {
                 self.code(u8::from(why));
                 None
+            }
+        }
+    }
+
+    // The code of a call on a matrix. The one that it hands out, or back, goes on to whoever puts it.
+    pub(crate) fn handed<M>(&mut self, r: Result<M, Unchanged<M>>) -> M {
+        match r {
+            Ok(matrix) => {
+                self.code(DONE);
+                matrix
+            }
+            Err(Unchanged { why, matrix }) => {
+                self.code(u8::from(why));
+                matrix
             }
         }
     }

@@ -21,7 +21,8 @@ ghost use Rattle.std.specs.Prelude.{◌≤◌};
 use crate::item::Item;
 use crate::job::{HEADER_SIZE, Job};
 use crate::streams::{read_full, write_all};
-use std::fmt;
+use arrayvec::ArrayString;
+use std::fmt::{self, Write};
 
 // Why the program stops before the end of its input.
 #[derive(Clone, Copy, Debug, PartialEq, Eq)]
@@ -50,6 +51,9 @@ struct Buffers {
     items: [u8; BUFFER_SIZE],
     answers: [u8; BUFFER_SIZE],
 }
+
+// The bytes that the line of a failure may have.
+const MOST_LINE: usize = 64;
 
 // The next job, if there is one. A read that fails counts as the end of the input.
 fn next_job(rt: &HostRuntime) -> Result<Option<Job>, Failure> {
@@ -124,6 +128,9 @@ fn run(rt: &HostRuntime) -> Result<(), Failure> {
 
 fn main(rt: HostRuntime) {
     if let Err(why) = run(&rt) {
-        let _ = eprintln!(rt; "probe: {why}");
+        // one line, by one write: as with an answer, a write that fails ends the matter
+        let mut line = ArrayString::<MOST_LINE>::new();
+        let _ = writeln!(line, "probe: {why}");
+        write_all(&mut rt.stderr(), line.as_bytes());
     }
 }

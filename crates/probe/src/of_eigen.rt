@@ -109,15 +109,12 @@ fn sort3_with_columns(item: &mut Item, out: &mut Answer) {
     out.numbers(&r.columns.data);
 }
 
-// Code, and the matrix: the rotated copy, or on refusal what a rotation in place leaves.
+// Code, and the matrix: rotated, or on refusal as it was.
 fn rotate(item: &mut Item, out: &mut Answer) {
     let p = pair(item);
     let r = rotation(item);
-    let mut left = sym3(item);
-    let rotated = lent::rotate(left, p, r);
-    let ended = lent::rotate_in_place(&mut left, p, r);
-    let _ = out.told(ended);
-    out.numbers(&rotated.unwrap_or(left).data);
+    let rotated = out.handed(lent::rotate(sym3(item), p, r));
+    out.numbers(&rotated.data);
 }
 
 pub(crate) fn eigen(op: u8, item: &mut Item, out: &mut Answer) -> Option<()> {

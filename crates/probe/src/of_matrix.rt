@@ -42,9 +42,8 @@ fn places_square<const N: usize, const S: usize>(
     let place = a.index_linear(w.r, w.c);
     let number = a.index(w.r, w.c);
     put_place(out, place, number);
-    let written = a.index_mut(w.r, w.c, w.x);
-    let left = out.told(written).unwrap_or(*a);
-    out.numbers(&left.data);
+    let written = out.handed(a.index_mut(w.r, w.c, w.x));
+    out.numbers(&written.data);
 }
 
 fn places_packed<const N: usize, const S: usize>(
@@ -55,9 +54,8 @@ fn places_packed<const N: usize, const S: usize>(
     let place = a.index_linear(w.r, w.c);
     let number = a.index(w.r, w.c);
     put_place(out, place, number);
-    let written = a.index_mut(w.r, w.c, w.x);
-    let left = out.told(written).unwrap_or(*a);
-    out.numbers(&left.data);
+    let written = out.handed(a.index_mut(w.r, w.c, w.x));
+    out.numbers(&written.data);
 }
 
 // Two columns and the matrix; identity, transpose, code and flipped, code and swapped.
@@ -71,12 +69,10 @@ fn moves<const N: usize, const S: usize>(
     out.numbers(&identity.data);
     let transposed = a.transpose_in_place();
     out.numbers(&transposed.data);
-    let flipped = a.flip_column(i);
-    let left = out.told(flipped).unwrap_or(*a);
-    out.numbers(&left.data);
-    let swapped = a.swap_columns(i, j);
-    let left = out.told(swapped).unwrap_or(*a);
-    out.numbers(&left.data);
+    let flipped = out.handed(a.flip_column(i));
+    out.numbers(&flipped.data);
+    let swapped = out.handed(a.swap_columns(i, j));
+    out.numbers(&swapped.data);
 }
 
 // A factor, the matrix, another that is written over; code and scaled, copied.

@@ -8,6 +8,7 @@ ghost use Rattle.record.specs.Answer.{record_of, record_step_of, Stepped};
 
 use crate::layout::{ANSWER_SIZE, EVENT_SIZE, KIND_AT, LEFT_AT, NUMBERS_AT, RIGHT_AT};
 use crate::request::judged;
+use kinds::coded::refused;
 use kinds::work::{Refused, Worked};
 use matrix::codes::{DONE, Refusal};
 use wire::bytes::put_numbers;
@@ -18,19 +19,12 @@ fn with_code(w: Result<Worked, Refused>) -> (u8, Worked)
 {
     match w {
         Ok(w) => (DONE, w),
-        Err(e) => {
-            let w = Worked {
-                count: e.pivot,
-                settled: false,
-                values: [0.0; 3],
-                left: [0.0; 9],
-                right: [0.0; 9],
-            };
-            (e.why.into(), w)
-        }
+        Err(e) => refused(e.why.into(), e.pivot),
     }
 }
 
+// Inlined, so that the numbers go from where they are worked out to their bytes, and not through memory first.
+#[inline(always)]
 fn put_record(out: &mut [u8], event: &[u8], kind: u8, w: Result<Worked, Refused>)
     requires sizes { (length event.now ≡ event_bytes) × (length out.old ≡ answer_size F) }
     ensures { out.new ≡ record_of F event.now kind (worked F w) }

@@ -30,14 +30,21 @@ const WORKED_AT: usize = V_AT + 9 * NUMBER_SIZE;
 // The size of an answer.
 pub const SVD_SIZE: usize = WORKED_AT + 9 * NUMBER_SIZE;
 
-// The matrix that begins at byte `at`.
-fn mat3_at(s: &[u8], at: usize) -> Mat3
+fn mat3_in(s: &[u8], at: usize) -> Mat3
     requires { at + mat_size F ≤ length s.now }
     ensures { result ≡ mat3 (numbers_from F 9 at s.now) }
 {
     Mat3 {
         data: array::from_fn(|i| number_at(s, at + NUMBER_SIZE * i)),
     }
+}
+
+// The matrix that begins at byte `at`. It is read in a slice of its own size: there the compiler knows that each number is whole, and copies no part of one.
+fn mat3_at(s: &[u8], at: usize) -> Mat3
+    requires { at + mat_size F ≤ length s.now }
+    ensures { result ≡ mat3 (numbers_from F 9 at s.now) }
+{
+    mat3_in(&s[at..at + MAT_SIZE], 0)
 }
 
 // The answer's bytes from `at` on, where there is room for all of them: code, count and mark, zeros up to the numbers, and the numbers.

@@ -11,9 +11,10 @@ mod streams;
 
 use crate::job::{ANSWER_SIZE, Job, answer};
 use crate::streams::{read_full, write_all};
+use arrayvec::ArrayString;
 use row::bytes::MAT_SIZE;
 use row::rows::ROOM;
-use std::fmt;
+use std::fmt::{self, Write};
 
 // Why the program stops before the end of its input.
 #[derive(Clone, Copy, Debug, PartialEq, Eq)]
@@ -37,6 +38,9 @@ struct Buffers {
     mats: [u8; MAT_SIZE * ROOM],
     answer: [u8; ANSWER_SIZE],
 }
+
+// The bytes that the line of a failure may have.
+const MOST_LINE: usize = 64;
 
 // The next job, if there is one. A read that fails counts as the end of the input.
 fn next_job(rt: &HostRuntime) -> Result<Option<Job>, Failure> {
@@ -80,6 +84,9 @@ fn run(rt: &HostRuntime) -> Result<(), Failure> {
 
 fn main(rt: HostRuntime) {
     if let Err(why) = run(&rt) {
-        let _ = eprintln!(rt; "row_probe: {why}");
+        // one line, by one write: as with an answer, a write that fails ends the matter
+        let mut line = ArrayString::<MOST_LINE>::new();
+        let _ = writeln!(line, "row_probe: {why}");
+        write_all(&mut rt.stderr(), line.as_bytes());
     }
 }

@@ -3,13 +3,14 @@
 ghost use Rattle.std.specs.Prelude.{◌≡◌};
 ghost use Rattle.float.specs.Width.{F};
 ghost use Rattle.matrix.specs.Answer.{Outcome, done, entry};
-ghost use Rattle.matrix.specs.Indexed.{read_of, write_of, swap_columns_of, flip_column_of, moved_or, packed_or};
+ghost use Rattle.matrix.specs.Indexed.{read_of, write_of, swap_columns_of, flip_column_of, moved, written};
 ghost use Rattle.matrix.specs.Indexed.{mat2_answer, mat3_answer, sym2_answer, sym3_answer};
 ghost use Rattle.matrix.specs.Places.{square_index, packed_index};
 ghost use Rattle.matrix.specs.Square.{identity_of, transpose_of};
 ghost use Rattle.shown.specs.Left.{left};
 
 use float::width::Real;
+use matrix::answers::Unchanged;
 use matrix::codes::{DONE, Refusal};
 use matrix::shape::{DenseMatrixN, DenseMatrixSymN};
 use matrix::square::{Mat2, Mat3};
@@ -27,35 +28,41 @@ fn put_entry(place: &mut Real, x: Option<Real>) -> u8
     DONE
 }
 
-// The array takes the numbers of the matrix, and keeps its own where there is none.
+// The array takes the numbers of the matrix that is handed out, or back.
 fn put_moved<const N: usize, const S: usize>(
     a: &mut [Real; S],
-    moved: Result<DenseMatrixN<N, S>, Refusal>,
+    r: Result<DenseMatrixN<N, S>, Unchanged<DenseMatrixN<N, S>>>,
 ) -> u8
-    ensures { left result a.new ≡ moved_or a.old moved.entry }
+    ensures { left result a.new ≡ moved r.entry }
 {
-    match moved {
+    match r {
         Ok(m) => {
             a.copy_from_slice(&m.data);
             DONE
         }
-        Err(e) => u8::from(e),
+        Err(e) => {
+            a.copy_from_slice(&e.matrix.data);
+            u8::from(e.why)
+        }
     }
 }
 
 // The same of a symmetric matrix, which is another type and has another view.
 fn put_written<const N: usize, const S: usize>(
     a: &mut [Real; S],
-    written: Result<DenseMatrixSymN<N, S>, Refusal>,
+    r: Result<DenseMatrixSymN<N, S>, Unchanged<DenseMatrixSymN<N, S>>>,
 ) -> u8
-    ensures { left result a.new ≡ packed_or a.old written.entry }
+    ensures { left result a.new ≡ written r.entry }
 {
-    match written {
+    match r {
         Ok(m) => {
             a.copy_from_slice(&m.data);
             DONE
         }
-        Err(e) => u8::from(e),
+        Err(e) => {
+            a.copy_from_slice(&e.matrix.data);
+            u8::from(e.why)
+        }
     }
 }
 

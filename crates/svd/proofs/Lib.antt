@@ -1,6 +1,7 @@
 pub mod Applied
 pub mod Signed
 pub mod Placed
+pub mod Rounds
 pub mod Watched
 pub mod Answered
 pub mod Counted

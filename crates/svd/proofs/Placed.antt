@@ -7,10 +7,10 @@ use Rattle.std.proofs.lemmas.List.Edits.{swap_is}
 use Rattle.float.proofs.Words.{◌≡◌, refl, sym, ap, ◌∙◌, List, ℕ, ◌<◌, arith, length, set, length-set, Float, nan}
 use Rattle.float.proofs.Choice.{by_eqb, whether}
 use Rattle.matrix.specs.Answer.{Answer, done}
-use Rattle.matrix.specs.Indexed.{moved_or, swap_columns_of}
+use Rattle.matrix.specs.Indexed.{moved, swap_columns_of}
 use Rattle.matrix.specs.Places.{IsSquare, at, tabulate}
 use Rattle.matrix.specs.Square.{square_with, exchanged, exchange_of}
-use Rattle.matrix.specs.declared.codes.Refusal.{Refusal}
+use Rattle.matrix.specs.declared.answers.Unchanged.{Unchanged}
 use Rattle.matrix.specs.declared.shape.DenseMatrixN.{DenseMatrixN}
 use Rattle.matrix.proofs.Answered.{within}
 use Rattle.matrix.proofs.Refusals.{number_above}
@@ -20,14 +20,17 @@ use Rattle.matrix.proofs.Tables.{tabulate-same, tabulate_all}
 
 -- ---- a move that is done leaves its matrix
 
-pub moved : {n s : ℕ} (xs ys : List Float) (r : Result (DenseMatrixN n s) Refusal) (u : DenseMatrixN n s) (p : IsSquare n s) → moved_or xs r ≡ done ys
-    → result_unwrap_or r u ≡ square_with p ys
-moved xs ys (Ok m) u p e = square_known m.square p (ap (λ (a : Answer (List Float)). a.value) e)
-moved xs ys (Err k) u p e = let z = ap (λ (a : Answer (List Float)). a.code) e in absurd (omega (arith, number_above k, z))
+abbrev Moved : ℕ → ℕ → Type 0
+Moved n s = Result (DenseMatrixN n s) (Unchanged (DenseMatrixN n s))
 
-pub columns_swapped : {n s : ℕ} (i j : ℕ) (m u : DenseMatrixN n s) (r : Result (DenseMatrixN n s) Refusal) (p : IsSquare n s)
-    → moved_or m.«data» r ≡ swap_columns_of n i j m.«data» → i < n → j < n → result_unwrap_or r u ≡ square_with p (exchange_of n i j m.«data»)
-columns_swapped i j m u r p e h k = moved m.«data» _ r u p (e ∙ sym (within _ _ _ _ _ h k))
+pub moved_to : {n s : ℕ} (ys : List Float) (r : Moved n s) (u : DenseMatrixN n s) (p : IsSquare n s) → moved r ≡ done ys
+    → result_unwrap_or r u ≡ square_with p ys
+moved_to ys (Ok m) u p e = square_known m.square p (ap (λ (a : Answer (List Float)). a.value) e)
+moved_to ys (Err k) u p e = let z = ap (λ (a : Answer (List Float)). a.code) e in absurd (omega (arith, number_above k.why, z))
+
+pub columns_swapped : {n s : ℕ} (i j : ℕ) (m u : DenseMatrixN n s) (r : Moved n s) (p : IsSquare n s)
+    → moved r ≡ swap_columns_of n i j m.«data» → i < n → j < n → result_unwrap_or r u ≡ square_with p (exchange_of n i j m.«data»)
+columns_swapped i j m u r p e h k = moved_to _ r u p (e ∙ sym (within _ _ _ _ _ h k))
 
 -- a matrix is its numbers, whichever of the tests says that it is square
 pub same_v : {n s : ℕ} (w : Decomposed n s) (p : IsSquare n s) → w ≡ record { values = w.values; u = w.u; v = square_with p w.v.«data» }

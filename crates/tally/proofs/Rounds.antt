@@ -1,5 +1,5 @@
 -- The counts begin at nothing. What is counted are the whole records among the bytes at hand, and what is kept is the rest behind them.
--- After each round the program is ready for the next.
+-- After each round the program is ready for the next, and fewer rounds are to come.
 use Rattle.float.proofs.Words.{◌≡◌, refl, sym, ap, ◌∙◌, subst, subst⁻¹, true, false, false≢true, List, [], ◌++◌, ℕ, ◌+◌, ◌-◌, ◌*◌, ◌/◌, ◌≤◌, ◌<◌}
 use Rattle.float.proofs.Words.{arith, eqb, eq-eqb, length, take, length-take, length-drop}
 use lib.Seq.{take-take}
@@ -89,17 +89,35 @@ counted buf left counts sums total code s t large within a e h =
           (rw e (rest_kept (answer_size F) total buf (omega arith)));
     }
 
+pub record Next (s t : State) : Type 0 where
+  pub ready : Ready F t
+  pub fewer : t.rounds < s.rounds
+
 module _ (s : State) (ready : Ready F s) where
   -- whatever a round does, the program is ready for the next
-  pub next : (o : Outcome) (buf left counts sums : List ℕ) (t : State) → Followed F o buf left counts sums s t → Ready F t
-  next (Bytes n) buf left counts sums t v =
+  pub still_ready : (o : Outcome) (buf left counts sums : List ℕ) (t : State) → Followed F o buf left counts sums s t → Ready F t
+  still_ready (Bytes n) buf left counts sums t v =
       let s = take (s.kept + n) buf in
       let small : length (rest_of (answer_size F) s) < answer_size F = simp length-drop (omega arith) in
       subst⁻¹ (Ready F) v.state (chosen (Ready F) (eqb (with_file F counts (whole_part F s)).code 0) _ _ small (omega arith))
-  next Nothing buf left counts sums t v =
+  still_ready Nothing buf left counts sums t v =
       subst⁻¹ (Ready F) v.state (chosen (Ready F) (eqb (with_file F counts (take s.kept buf)).code 0) _ _ (omega arith) (omega arith))
-  next Interrupted buf left counts sums t v = subst⁻¹ (Ready F) v.2 ready
-  next Failed buf left counts sums t v = subst⁻¹ (Ready F) v.1 (omega arith)
+  still_ready Interrupted buf left counts sums t v = subst⁻¹ (Ready F) v.2 ready
+  still_ready Failed buf left counts sums t v = subst⁻¹ (Ready F) v.1 (omega arith)
+
+  -- and fewer rounds are to come
+  pub next : 0 < s.rounds → (o : Outcome) (buf left counts sums : List ℕ) (t : State) → Followed F o buf left counts sums s t → Next s t
+  next more o buf left counts sums t v = record { ready = still_ready o buf left counts sums t v; fewer = fewer_rounds o v }
+    where
+      Fewer : State → Type 0
+      Fewer u = u.rounds < s.rounds
+
+      fewer_rounds : (o : Outcome) → Followed F o buf left counts sums s t → Fewer t
+      fewer_rounds (Bytes n) w =
+          subst⁻¹ Fewer w.state (chosen Fewer (eqb (with_file F counts (whole_part F (take (s.kept + n) buf))).code 0) _ _ (omega arith) more)
+      fewer_rounds Nothing w = subst⁻¹ Fewer w.state (chosen Fewer (eqb (with_file F counts (take s.kept buf)).code 0) _ _ more more)
+      fewer_rounds Interrupted w = subst⁻¹ Fewer w.2 (omega arith)
+      fewer_rounds Failed w = subst⁻¹ Fewer w.1 more
 
 -- what rounds led to, ready for the next
 pub record Led (buf counts : List ℕ) (s : State) : Type 0 where
@@ -120,7 +138,7 @@ pub led_on : (rounds : ℕ) (d t : Desk) (o : Outcome) (came : List ℕ) (r x : 
 led_on rounds d t o came r x l more read v e =
     subst (λ (y : Result (ControlFlow Unit Unit) Failure). Led t.answers t.counts (followed rounds t.kept y)) e
     (record {
-      ready = next (standing rounds d.kept) l.ready o came t.answers d.counts t.counts (followed rounds t.kept r) v;
+      ready = (next (standing rounds d.kept) l.ready more o came t.answers d.counts t.counts (followed rounds t.kept r) v).ready;
       seen = l.seen ++ came_of o d.kept came;
       reached = round o l.seen d.answers came t.answers d.counts t.counts (standing rounds d.kept) (followed rounds t.kept r) l.reached more read v;
     })

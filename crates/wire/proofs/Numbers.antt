@@ -1,12 +1,14 @@
 -- Numbers in bytes, over the format.
 use Rattle.float.proofs.Words.{◌≡◌, refl, sym, ap, ◌∙◌, not, List, [], ◌∷◌, ◌++◌, append_assoc, ℕ, zero, suc, ◌+◌, ◌*◌, ◌^◌, ◌≤◌, ◌<◌, mul-zero, mul-suc}
+use Rattle.float.proofs.Words.{mul-le-mul_left}
 use Rattle.float.proofs.Words.{add_assoc, add_comm, add-one, T, length, get_or, take, drop, replicate, length-append, replicate-append-replicate, drop-cons}
 use Rattle.float.proofs.Words.{drop-append-add, take-append-add, sets, arith, Float, nan, Format, binary32, binary64, fits, is_nan, top, of_bits, to_bits}
 use lib.Ieee.Bits.{of_bits-to_bits, to_bits-lt, to_bits-of_bits}
 use Rattle.float.specs.Constants.{zero_f}
 use Rattle.matrix.specs.Places.{zeros}
-use Rattle.wire.specs.Bytes.{number_bytes, place_of, word_of, bytes_of, number_bytes_of, placed_of}
-use Rattle.wire.proofs.Parts.{sets_append, placed_front, placed_behind}
+use Rattle.matrix.proofs.Tables.{tabulate-same}
+use Rattle.wire.specs.Bytes.{number_bytes, place_of, word_of, bytes_of, part, number_at, numbers_from, number_bytes_of, placed_of}
+use Rattle.wire.proofs.Parts.{part_in, sets_append, placed_front, placed_behind}
 use Rattle.wire.proofs.Words.{bytes_length, word_of_bytes, word_below, bytes_of_word}
 
 abbrev pub word_bytes : Format → Float → List ℕ
@@ -96,3 +98,15 @@ pub bytes_of-number : (f : Format) (l : List ℕ) → length l ≡ number_bytes 
 bytes_of-number f l n h t =
     let k : word_of l < 2 * top f = rw (whole_width f, ← n) (word_below l h) in
     rw (to_bits-of_bits f (word_of l) k t, ← n) (bytes_of_word l h)
+
+-- the numbers of a part, where all of them are in it, are those that stand there in all of the bytes
+pub numbers_in : (f : Format) (n a m : ℕ) (s : List ℕ) → place_of f 0 n ≤ m → numbers_from f n 0 (part a m s) ≡ numbers_from f n a s
+numbers_in f n a m s h = tabulate-same n _ _ same
+  where
+    inside : (i : ℕ) → i < n → place_of f 0 i + number_bytes f ≤ m
+    inside i l = let p = mul-le-mul_left (number_bytes f) l in let q = mul-suc (number_bytes f) i in omega arith
+
+    same : (i : ℕ) → i < n → number_at f (place_of f 0 i) (part a m s) ≡ number_at f (place_of f a i) s
+    same i l =
+        ap (λ (b : List ℕ). of_bits f (word_of b))
+        (part_in s a m (number_bytes f) (place_of f 0 i) (inside i l) ∙ ap (λ (k : ℕ). part k (number_bytes f) s) (omega arith))

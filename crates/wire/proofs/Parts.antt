@@ -1,11 +1,11 @@
 -- Parts of a list of bytes: the first byte of one, a part that goes past the end, bytes stored in the place of others, and parts one after the other.
-use Rattle.float.proofs.Words.{◌≡◌, refl, sym, ◌∙◌, Bool, true, false, List, [], ◌∷◌, ◌++◌, append_assoc, ℕ, suc, ◌+◌, ◌-◌, ◌*◌, ◌≤◌, ◌<◌, mul-suc, arith}
-use Rattle.float.proofs.Words.{add-one, add-zero, length, take}
+use Rattle.float.proofs.Words.{◌≡◌, refl, sym, ap, ◌∙◌, subst, Bool, true, false, List, [], ◌∷◌, ◌++◌, append_assoc, ℕ, suc, ◌+◌, ◌-◌, ◌*◌, ◌≤◌, ◌<◌, arith}
+use Rattle.float.proofs.Words.{mul-suc, add-one, add-zero, length, take}
 use Rattle.float.proofs.Words.{drop}
 use Rattle.float.proofs.Words.{set, length-take, length-drop, length-append, take_all, take_at, drop_at, drop-drop, sets, sets-eq, le-leb, lt-leb, ltb}
 use Rattle.float.proofs.Words.{ltb-true, ltb-false, min, le_of_lt}
 use lib.Seq.{length-sets, take-append-le, drop-append-le}
-use Rattle.std.proofs.lemmas.List.{drop_all}
+use Rattle.std.proofs.lemmas.List.{drop_all, drop-take, take-take}
 use Rattle.wire.specs.Bytes.{part, placed_of}
 
 -- a part that ends with the list is the one that goes on behind it
@@ -18,6 +18,13 @@ part_within a n l r h = rw (drop-append-le a l r (omega arith)) (take-append-le 
 
 pub part-behind : (a n : ℕ) (l x : List ℕ) → length l ≡ a → length x ≡ n → part a n (l ++ x) ≡ x
 part-behind a n l x e k = rw (drop_at l x a e) (take_all n x (omega arith))
+
+-- a part of a part
+pub part_in : (t : List ℕ) (a m w j : ℕ) → j + w ≤ m → take w (drop j (take m (drop a t))) ≡ take w (drop (a + j) t)
+part_in t a m w j h =
+    let e : j + (m - j) ≡ m = omega arith in
+    subst (λ (n : ℕ). take w (drop j (take n (drop a t))) ≡ take w (drop (a + j) t)) e
+    (ap (take w) (drop-take j (m - j) (drop a t)) ∙ take-take w (m - j) (drop j (drop a t)) (omega arith) ∙ ap (take w) (drop-drop j a t))
 
 -- ---- stores
 
