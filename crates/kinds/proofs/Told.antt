@@ -68,20 +68,22 @@ marked false = refl
 untold_is : (w : Worked) → untold (whole_worked w) ≡ w
 untold_is w = ap (λ (b : Bool). record { count = w.count; settled = b; values = w.values; left = w.left; right = w.right }) (marked w.settled)
 
+-- the rest of it names one answer, whatever code stands with it
+answer_one : (c d : ℕ) (v w : Worked) → with_code c v ≡ with_code d w → v ≡ w
+answer_one c d v w e = sym (untold_is v) ∙ ap untold e ∙ untold_is w
+
 pub whole_worked_one : (v w : Worked) → whole_worked v ≡ whole_worked w → v ≡ w
-whole_worked_one v w e = sym (untold_is v) ∙ ap untold e ∙ untold_is w
+whole_worked_one = answer_one 0 0
 
 pub with_code_one : (r q : ℕ × Worked) → with_code r.0 r.1 ≡ with_code q.0 q.1 → r ≡ q
 with_code_one r q e =
-    let code : r.0 ≡ q.0 = ap (λ (w : WorkedAnswer). w.code) e in
-    let w : r.1 ≡ q.1 = sym (untold_is r.1) ∙ ap untold e ∙ untold_is q.1 in
-    ap (λ (k : ℕ). (k, r.1)) code ∙ ap (λ (x : Worked). (q.0, x)) w
+    ap (λ (k : ℕ). (k, r.1)) (ap (λ (w : WorkedAnswer). w.code) e) ∙ ap (λ (w : Worked). (q.0, w)) (answer_one r.0 q.0 r.1 q.1 e)
 
 abbrev untold_refused : WorkedAnswer → Refusal → Refused
 untold_refused w why = record { why = why; pivot = w.count }
 
 pub worked_one : (r q : Result Worked Refused) → worked F r ≡ worked F q → r ≡ q
-worked_one (Ok x) (Ok y) e = ap Ok (sym (untold_is x) ∙ ap untold e ∙ untold_is y)
+worked_one (Ok x) (Ok y) e = ap Ok (whole_worked_one x y e)
 worked_one (Ok x) (Err e) h = let c = ap (λ (w : WorkedAnswer). w.code) h in let l = number_above e.why in absurd (omega arith)
 worked_one (Err e) (Ok y) h = let c = ap (λ (w : WorkedAnswer). w.code) h in let l = number_above e.why in absurd (omega arith)
 worked_one (Err e) (Err d) h =
